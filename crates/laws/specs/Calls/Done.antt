@@ -1,0 +1,122 @@
+-- Each of the eight calls that is done, one by one, has such an outcome.
+-- Assumes nothing.
+use Prim.Native.Nat.{ℕ, suc, _+_, _*_, _-_, _<_}
+use native.Mathlib.Omega.{arith}
+use mathlib.Core.List.{[], _∷_, _++_}
+use mathlib.Core.Bool.{false}
+use mathlib.Core.Path.{_≡_, refl, sym, _∙_, ap}
+use mathlib.Core.Logic.{_≢_}
+use lib.ListN.{length, set, take, drop}
+use lib.Seq.{getD-set-other}
+use Rattle.rules.specs.Heap.{Heap, queued, running, kindOf, slotOf, rootAt, queueAt, Used, setRoot, setSlot, setRunning, setKind, setFlags, setCount, setQueue}
+use Rattle.rules.specs.Release.{Work, start, incref, release}
+use Rattle.rules.specs.Collect.{collect}
+use Rattle.rules.specs.Refusals.{Call, lowestFree, isFresh, refusalSound}
+use Rattle.rules.specs.Refusals.Call.{FRESH, NEW, CLEAR, COPY, LOAD, STORE, COLLECT, START, FINISH}
+use Rattle.rules.specs.Calls.{Result, done, finished, allocate, writeRoot, writeSlot, held, startRun, leaveQueue, finishRun, act}
+use Rattle.rules.specs.Numbers.{leaving}
+use Rattle.rules.specs.Claim.{stood}
+use Rattle.laws.specs.Lists.Tests.{clash}
+use Rattle.laws.specs.Sound.But.{SoundBut}
+use Rattle.laws.specs.Reach.Used.{root-used, slot-used}
+use Rattle.laws.specs.Release.Advance.{advance-trans}
+use Rattle.laws.specs.Release.Taken.{ReleaseLaw, release-sound}
+use Rattle.laws.specs.Calls.Write.{write-root-ready, write-slot-ready}
+use Rattle.laws.specs.Calls.New.{new-sound}
+use Rattle.laws.specs.Calls.Start.{start-sound}
+use Rattle.laws.specs.Calls.Finish.{leave-sound, entries-pop}
+use Rattle.laws.specs.Calls.Outcome.{Outcome, outcome-plain, outcome-advance, outcome-collect}
+use Rattle.laws.specs.Calls.Refusals.{lowest-free, new-facts, clear-facts, copy-facts, load-facts, store-facts, start-facts, finish-facts}
+
+-- a result that reports a call's work
+pub record Performed (h : Heap) (call : Call) (r : Result) : Type 0 where
+  pub work : Work
+  pub outcome : Outcome h (stood h call 0) (leaving call 0) work
+  pub heap : r .heap ≡ work .heap
+  pub refused : r .answer .refused ≡ 0
+  pub freed : r .answer .freed ≡ length (work .freed)
+  pub queued : r .answer .queued ≡ length (work .queued)
+
+module _ (h : Heap) (s : SoundBut h []) where
+  -- ---- the writes
+
+  root-outcome : (to r : ℕ) → to < 64 → ((c : ℕ) → r ≡ suc c → Used h c) → Outcome h (h .slots) 0 (writeRoot h to r)
+  unfolding writeRoot start setRoot incref
+  root-outcome to r b target =
+      let w : Heap = setRoot (incref h r) to r in
+      let l : ReleaseLaw (start w) (writeRoot h to r) [] = release-sound (start w) (rootAt h to) [] refl (write-root-ready h to r b target s) in
+      outcome-advance h w 0 (writeRoot h to r) (l .cells) (l .joined) refl refl (l .advance) (l .sound)
+
+  slot-outcome : (c i r : ℕ) → i < 8 → kindOf h c ≡ 1 → ((d : ℕ) → r ≡ suc d → Used h d) → Outcome h (set (h .slots) (8 * c + i) r) 0 (writeSlot h c i r)
+  unfolding writeSlot start setSlot incref
+  slot-outcome c i r b object target =
+      let w : Heap = setSlot (incref h r) (8 * c + i) r in
+      let l : ReleaseLaw (start w) (writeSlot h c i r) [] = release-sound (start w) (slotOf h c i) [] refl (write-slot-ready h c i r b object target s) in
+      outcome-advance h w 0 (writeSlot h c i r) (l .cells) (l .joined) refl refl (l .advance) (l .sound)
+
+  -- two take-offs, one after the other
+  finish-outcome : running h ≢ 0 → Outcome h (h .slots) 1 (finishRun h)
+  unfolding finishRun start leaveQueue setRoot setRunning setFlags setQueue
+  finish-outcome busy =
+      let w : Heap = leaveQueue h in
+      let v : Work = release (start w) (rootAt h (running h - 1)) in
+      let one : ReleaseLaw (start w) v (queueAt h 0 ∷ []) = release-sound (start w) (rootAt h (running h - 1)) (queueAt h 0 ∷ []) refl (leave-sound h s busy) in
+      let two : ReleaseLaw v (finishRun h) [] = release-sound v (queueAt h 0) [] (one .empty) (one .sound) in
+      outcome-advance h w 1 (finishRun h) (one .cells ++ two .cells) (one .joined ++ two .joined) refl (sym (ap (drop 1) (entries-pop h s busy)))
+      (advance-trans (start w) v (finishRun h) (one .cells) (two .cells) (one .joined) (two .joined) (one .advance) (two .advance)) (two .sound)
+
+  -- ---- the calls that take nothing off
+
+  new-outcome : (r k f : ℕ) → refusalSound h (NEW r k f) ≡ 0 → Outcome h (h .slots) 0 (start (allocate h r k f (lowestFree (h .kind))))
+  unfolding allocate setRoot setCount setFlags setKind
+  new-outcome r k f e =
+      let c : ℕ = lowestFree (h .kind) in
+      let t = new-facts h r k f e in
+      let free : kindOf h c ≡ 0 = lowest-free (h .kind) (t .6) in
+      outcome-plain h (allocate h r k f c) (new-sound h s r k f c (t .0) (t .1) (t .2) (t .3) (t .4) (t .5) (t .6) free) refl
+      (λ d u. omega (arith, getD-set-other (h .kind) c d k 0 (λ q. omega (arith, ap (kindOf h) q)))) refl
+
+  start-outcome : (r : ℕ) → refusalSound h (START r) ≡ 0 → Outcome h (h .slots) 0 (start (startRun h r))
+  unfolding startRun setRunning setRoot incref
+  start-outcome r e =
+      let t = start-facts h r e in
+      outcome-plain h (startRun h r) (start-sound h s r (t .0) (t .1) (t .3)) refl (λ d u. u)
+      (ap (λ (n : ℕ). take n (h .queue)) (getD-set-other (h .control) 1 0 (suc r) 0 (λ z. omega arith)))
+
+  -- ---- all of them
+
+  pub performed : (call : Call) → isFresh call ≡ false → refusalSound h call ≡ 0 → Performed h call (act h call)
+  unfolding isFresh act done finished stood leaving start
+  performed FRESH n e = clash refl n
+  performed (NEW r k f) n e = record { work = start (allocate h r k f (lowestFree (h .kind))); outcome = new-outcome r k f e; heap = refl; refused = refl; freed = refl; queued = refl }
+  performed (CLEAR r) n e = record { work = writeRoot h r 0; outcome = root-outcome r 0 (clear-facts h r e) (λ c z. absurd (omega arith)); heap = refl; refused = refl; freed = refl; queued = refl }
+  performed (COPY to from) n e = record {
+    work = writeRoot h to (rootAt h from);
+    outcome = root-outcome to (rootAt h from) (copy-facts h to from e .0) (root-used h [] s from);
+    heap = refl;
+    refused = refl;
+    freed = refl;
+    queued = refl;
+  }
+  performed (LOAD to o i) n e = record {
+    work = writeRoot h to (slotOf h (held h o) i);
+    outcome = root-outcome to (slotOf h (held h o) i) (load-facts h to o i e .0) (slot-used h [] s (8 * held h o + i));
+    heap = refl;
+    refused = refl;
+    freed = refl;
+    queued = refl;
+  }
+  performed (STORE o i from) n e = record {
+    work = writeSlot h (held h o) i (rootAt h from);
+    outcome =
+        let t = store-facts h o i from e in
+        let is : held h o ≡ t .3 .0 = omega (arith, t .3 .1) in
+        slot-outcome (held h o) i (rootAt h from) (t .1) (ap (kindOf h) is ∙ t .3 .2) (root-used h [] s from);
+    heap = refl;
+    refused = refl;
+    freed = refl;
+    queued = refl;
+  }
+  performed COLLECT n e = record { work = collect h; outcome = outcome-collect h s; heap = refl; refused = refl; freed = refl; queued = refl }
+  performed (START r) n e = record { work = start (startRun h r); outcome = start-outcome r e; heap = refl; refused = refl; freed = refl; queued = refl }
+  performed FINISH n e = record { work = finishRun h; outcome = finish-outcome (finish-facts h e); heap = refl; refused = refl; freed = refl; queued = refl }

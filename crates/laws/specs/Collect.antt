@@ -1,0 +1,4 @@
+-- COLLECT: its phases table by table, what it marks, and what it makes of a sound heap.
+pub mod Phases
+pub mod Live
+pub mod Swept

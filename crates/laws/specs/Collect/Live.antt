@@ -1,0 +1,191 @@
+-- COLLECT's two markings on a sound heap: which cells are due for a finalizer, which stay and which are garbage.
+-- Assumes nothing.
+use Prim.Native.Nat.{ℕ, zero, suc, _+_, _≤_, _<_}
+use native.Mathlib.Omega.{arith}
+use native.Mathlib.Decide.{decLt}
+use mathlib.Core.List.{List, [], _∷_, _++_, map}
+use mathlib.Core.Bool.{Bool, true, not, _&&_}
+use mathlib.Core.Path.{_≡_, refl, _∙_, ap}
+use mathlib.Core.Logic.{_≢_, by-cases}
+use lib.Dec.{eqb}
+use lib.ListN.{length, getD, length-append, length-map}
+use lib.Seq.{length-take-le}
+use borrow.Author.Tests.{eqb-true, eqb-false, eq-eqb, ne-eqb, not-true}
+use Rattle.rules.specs.Lists.{occ}
+use Rattle.rules.specs.Heap.{Heap, cells, queued, kindOf, flagsOf, entries, Used}
+use Rattle.rules.specs.Reach.{Link, Reached}
+use Rattle.rules.specs.Reach.Chain.{entry}
+use Rattle.rules.specs.Release.{finalizable}
+use Rattle.rules.specs.Collect.{reachedMarks, unreachedFinalizable, keptMarks, garbage}
+use Rattle.laws.specs.Lists.Tables.{inside}
+use Rattle.laws.specs.Lists.Tests.{none-of, and-join, and-left, and-right}
+use Rattle.laws.specs.Lists.Occ.{Stands, occ-append, occ-find, occ-refs, zero-refs}
+use Rattle.laws.specs.Lists.Pigeonhole.{pigeonhole, once-cons, below-cons}
+use Rattle.laws.specs.Lists.Select.{select-only, select-once, select-in}
+use Rattle.laws.specs.Marking.Marks.{Names, Held, Within, Settled}
+use Rattle.laws.specs.Marking.Closure.{closure-length, closure-keeps, closure-lists, closure-settled, closure-least}
+use Rattle.laws.specs.Sound.But.{SoundBut}
+use Rattle.laws.specs.Release.Decref.{finalizable-kind, finalizable-flags}
+use Rattle.laws.specs.Reach.Used.{holds-occ}
+use Rattle.laws.specs.Reach.Marked.{link-names, names-link, slots-within, reached-length, reached-settled, reached-marked}
+
+-- an object with flags 1
+of-finalizable : (h : Heap) (c : ℕ) → kindOf h c ≡ 1 → flagsOf h c ≡ 1 → finalizable h c ≡ true
+unfolding finalizable
+of-finalizable h c k f = and-join (eq-eqb (kindOf h c) 1 k) (eq-eqb (flagsOf h c) 1 f)
+
+-- marked in the end
+abbrev pub Live : Heap → ℕ → Type 0
+Live h c = Held (keptMarks h) c
+
+-- an unreached object with a finalizer to run
+pub record Due (h : Heap) (c : ℕ) : Type 0 where
+  pub range : c < cells h
+  pub object : kindOf h c ≡ 1
+  pub flagged : flagsOf h c ≡ 1
+  pub unreached : ¬ Reached h c
+
+module _ (h : Heap) (s : SoundBut h []) where
+  reached-held : (c : ℕ) → Reached h c → Held (reachedMarks h) c
+  reached-held c r = omega (arith, reached-marked h s c .1 r)
+
+  held-reached : (c : ℕ) → Held (reachedMarks h) c → Reached h c
+  held-reached c m = reached-marked h s c .0 (omega (arith, reached-settled h s .bits c))
+
+  -- ---- the cells that are due for a finalizer
+
+  pub due-only : (c : ℕ) → 1 ≤ occ c (unreachedFinalizable h) → Due h c
+  unfolding unreachedFinalizable
+  due-only c b =
+      let r = select-only (λ d. finalizable h d && eqb (getD (reachedMarks h) d 0) 0) (cells h) c b in
+      let f : finalizable h c ≡ true = and-left (finalizable h c) _ (r .1) in
+      let z : getD (reachedMarks h) c 0 ≡ 0 = eqb-true _ 0 (and-right (finalizable h c) _ (r .1)) in
+      record { range = r .0; object = finalizable-kind h c f; flagged = finalizable-flags h c f; unreached = λ x. omega (arith, reached-held c x) }
+
+  pub due-in : (c : ℕ) → kindOf h c ≡ 1 → flagsOf h c ≡ 1 → ¬ Reached h c → 1 ≤ occ c (unreachedFinalizable h)
+  unfolding unreachedFinalizable
+  due-in c k f n =
+      let z : getD (reachedMarks h) c 0 ≡ 0 = none-of (getD (reachedMarks h) c 0) (λ m. n (held-reached c m)) in
+      select-in (λ d. finalizable h d && eqb (getD (reachedMarks h) d 0) 0) (cells h) c (inside (h .kind) c (omega arith))
+      (and-join (of-finalizable h c k f) (eq-eqb _ 0 z))
+
+  pub due-once : (c : ℕ) → occ c (unreachedFinalizable h) ≤ 1
+  unfolding unreachedFinalizable
+  due-once c = select-once (λ d. finalizable h d && eqb (getD (reachedMarks h) d 0) 0) (cells h) c
+
+  -- ---- the cells that stay
+
+  due-names : (c : ℕ) → 1 ≤ occ c (unreachedFinalizable h) → Names (map suc (unreachedFinalizable h)) c
+  due-names c b = let t : Stands (suc c) (map suc (unreachedFinalizable h)) = occ-find _ _ (omega (arith, occ-refs c (unreachedFinalizable h))) in (t .at, t .is)
+
+  names-due : (c : ℕ) → Names (map suc (unreachedFinalizable h)) c → 1 ≤ occ c (unreachedFinalizable h)
+  names-due c n = omega (arith, holds-occ (map suc (unreachedFinalizable h)) (n .0) c (n .1), occ-refs c (unreachedFinalizable h))
+
+  pub kept-length : length (keptMarks h) ≡ cells h
+  unfolding keptMarks
+  kept-length = closure-length (h .slots) (reachedMarks h) (map suc (unreachedFinalizable h)) ∙ reached-length h s
+
+  kept-settled : Settled (h .slots) (keptMarks h)
+  unfolding keptMarks
+  kept-settled = closure-settled (h .slots) (reachedMarks h) (map suc (unreachedFinalizable h)) (rw (reached-length h s) (slots-within h s)) (reached-settled h s .bits)
+
+  pub live-small : (c : ℕ) → getD (keptMarks h) c 0 ≤ 1
+  live-small c = kept-settled .bits c
+
+  pub live-reached : (c : ℕ) → Reached h c → Live h c
+  unfolding keptMarks
+  live-reached c r = closure-keeps (h .slots) (reachedMarks h) (map suc (unreachedFinalizable h)) c (reached-held c r)
+
+  -- a table of cells that are due has no entry above N
+  due-within : Within (length (reachedMarks h)) (map suc (unreachedFinalizable h))
+  due-within i = go (getD (map suc (unreachedFinalizable h)) i 0) refl
+    where
+      go : (x : ℕ) → getD (map suc (unreachedFinalizable h)) i 0 ≡ x → x ≤ length (reachedMarks h)
+      go zero e = omega arith
+      go (suc c) e = omega (arith, reached-length h s, due-only c (names-due c (i, e)) .range)
+
+  pub live-due : (c : ℕ) → 1 ≤ occ c (unreachedFinalizable h) → Live h c
+  unfolding keptMarks
+  live-due c b = closure-lists (h .slots) (reachedMarks h) (map suc (unreachedFinalizable h)) due-within c (due-names c b)
+
+  pub live-link : (p c : ℕ) → Live h p → Link (h .slots) p c → Live h c
+  live-link p c m k = kept-settled .closed p c m (link-names k)
+
+  -- and no others: what holds of the reached and of those due, and follows along slots, holds of all that stay
+  pub live-least : {P : ℕ → Type 0} → ((p c : ℕ) → P p → Link (h .slots) p c → P c) → ((c : ℕ) → Reached h c → P c)
+      → ((c : ℕ) → 1 ≤ occ c (unreachedFinalizable h) → P c) → (c : ℕ) → Live h c → P c
+  unfolding keptMarks
+  live-least along reached due =
+      closure-least (h .slots) (reachedMarks h) (map suc (unreachedFinalizable h)) (λ p c x n. along p c x (names-link (h .slots) p c n))
+      (λ c m. reached c (held-reached c m)) (λ c n. due c (names-due c n))
+
+  -- ---- the garbage
+
+  abbrev isGarbage : ℕ → Bool
+  isGarbage c = not (eqb (kindOf h c) 0) && eqb (getD (keptMarks h) c 0) 0
+
+  pub garbage-only : (c : ℕ) → 1 ≤ occ c (garbage h) → Used h c × ¬ Live h c
+  unfolding garbage
+  garbage-only c b =
+      let r = select-only isGarbage (cells h) c b in
+      let u : kindOf h c ≢ 0 = eqb-false _ 0 (not-true _ (and-left (not (eqb (kindOf h c) 0)) _ (r .1))) in
+      let z : getD (keptMarks h) c 0 ≡ 0 = eqb-true _ 0 (and-right (not (eqb (kindOf h c) 0)) _ (r .1)) in
+      (omega arith, λ m. omega arith)
+
+  pub garbage-in : (c : ℕ) → Used h c → ¬ Live h c → 1 ≤ occ c (garbage h)
+  unfolding garbage
+  garbage-in c u n =
+      let z : getD (keptMarks h) c 0 ≡ 0 = none-of (getD (keptMarks h) c 0) (λ m. n m) in
+      select-in isGarbage (cells h) c (inside (h .kind) c u) (and-join (ap not (ne-eqb (kindOf h c) 0 (λ e. omega arith))) (eq-eqb _ 0 z))
+
+  pub garbage-once : (c : ℕ) → occ c (garbage h) ≤ 1
+  unfolding garbage
+  garbage-once c = select-once isGarbage (cells h) c
+
+  pub live-out : (c : ℕ) → Live h c → occ c (garbage h) ≡ 0
+  live-out c m = none-of (occ c (garbage h)) (λ b. garbage-only c b .1 m)
+
+  -- used and no garbage stays
+  pub out-live : (c : ℕ) → Used h c → occ c (garbage h) ≡ 0 → Live h c
+  out-live c u o = by-cases (decLt 0 (getD (keptMarks h) c 0)) (λ m. m) (λ n. absurd (omega (arith, garbage-in c u n)))
+
+  -- ---- the queue has room for those that are due: its entries are distinct cells, and they are not among them
+
+  pub entry-reached : (c : ℕ) → 1 ≤ occ (suc c) (entries h) → Reached h c
+  entry-reached c b = let t : Stands (suc c) (entries h) = occ-find (suc c) (entries h) b in entry (t .at) (t .is)
+
+  pub queued-once : (c : ℕ) → occ (suc c) (entries h) + occ c (unreachedFinalizable h) ≤ 1
+  queued-once c =
+      by-cases (decLt 0 (occ c (unreachedFinalizable h)))
+      (λ b. by-cases (decLt 0 (occ (suc c) (entries h))) (λ q. absurd (due-only c b .unreached (entry-reached c q))) (λ q. omega (arith, due-once c)))
+      (λ n. omega (arith, s .queue .once (suc c)))
+
+  pub due-room : queued h + length (unreachedFinalizable h) ≤ cells h
+  due-room =
+      omega (
+        arith,
+        pigeonhole (suc (cells h)) (0 ∷ joint) (once-cons 0 joint none once) (below-cons (suc (cells h)) 0 joint (omega arith) small),
+        length-append (entries h) (map suc (unreachedFinalizable h)),
+        length-map (unreachedFinalizable h) suc,
+        length-take-le (queued h) (h .queue) (omega (arith, s .queue .within, s .fit .queue-size)),
+      )
+    where
+      joint : List ℕ
+      joint = entries h ++ map suc (unreachedFinalizable h)
+
+      none : occ 0 joint ≡ 0
+      none = omega (arith, occ-append 0 (entries h) (map suc (unreachedFinalizable h)), s .queue .named, zero-refs (unreachedFinalizable h))
+
+      sum : (c : ℕ) → occ (suc c) joint ≡ occ (suc c) (entries h) + occ c (unreachedFinalizable h)
+      sum c = omega (arith, occ-append (suc c) (entries h) (map suc (unreachedFinalizable h)), occ-refs c (unreachedFinalizable h))
+
+      once : (x : ℕ) → occ x joint ≤ 1
+      once zero = omega (arith, none)
+      once (suc c) = omega (arith, sum c, queued-once c)
+
+      small : (x : ℕ) → 1 ≤ occ x joint → x < suc (cells h)
+      small zero o = omega arith
+      small (suc c) o =
+          by-cases (decLt 0 (occ c (unreachedFinalizable h)))
+          (λ b. omega (arith, due-only c b .range))
+          (λ n. omega (arith, inside (h .kind) c (omega (arith, s .queue .object c (omega (arith, sum c))))))

@@ -1,0 +1,354 @@
+-- The phases of COLLECT, table by table: queueing, taking off, wiping, rescuing.
+-- Assumes nothing.
+use Prim.Native.Nat.{ℕ, zero, suc, _+_, _*_, _-_, _≤_, _<_}
+use native.Mathlib.Omega.{arith}
+use native.Mathlib.Decide.{ℕ-discrete, decLt}
+use mathlib.Core.List.{List, [], _∷_, _++_, map, append-assoc, append-nil}
+use mathlib.Core.Path.{_≡_, refl, sym, _∙_, ap}
+use mathlib.Core.Logic.{_≢_, by-cases}
+use lib.ListN.{length, getD, set, replicate, length-set, length-take, length-drop, List·getD-eq-default}
+use lib.Seq.{getD-set-same, getD-set-other, take-suc-set, sets, length-sets, set-out, ext-getD}
+use Rattle.rules.specs.Lists.{occ}
+use Rattle.rules.specs.Heap.{Heap, queued, running, kindOf, flagsOf, countOf, slotOf, slotsOf, entries, setCount, setFlags, setQueue, enqueue, wipe}
+use Rattle.rules.specs.Collect.{enqueueAll, lowerAll, unlinkAll, wipeAll, rescueAll}
+use Rattle.laws.specs.Lists.Tables.{by-cell, set-here, zeros-in, zeros-out, slot-entry, slots-most, apart}
+use Rattle.laws.specs.Lists.Occ.{occ-nil, occ-here, occ-cons, occ-one, occ-other, occ-single, occ-cleared}
+
+-- ---- a count that rises or falls by one
+
+pub raise-at : (l : List ℕ) (i : ℕ) → i < length l → (c : ℕ) → getD (set l i (suc (getD l i 0))) c 0 ≡ getD l c 0 + occ c (i ∷ [])
+raise-at l i b =
+    by-cell i (omega (arith, getD-set-same l i (suc (getD l i 0)) 0 b, occ-one i i refl))
+    (λ c n. omega (arith, getD-set-other l i c (suc (getD l i 0)) 0 n, occ-other c i n))
+
+-- beyond the table's end nothing is written, and 0 is read
+pub lower-at : (l : List ℕ) (i c : ℕ) → getD (set l i (getD l i 0 - 1)) c 0 ≡ getD l c 0 - occ c (i ∷ [])
+lower-at l i =
+    by-cell i (here (decLt i (length l)))
+    (λ c n. omega (arith, getD-set-other l i c (getD l i 0 - 1) 0 n, occ-other c i n))
+  where
+    here : Dec (i < length l) → getD (set l i (getD l i 0 - 1)) i 0 ≡ getD l i 0 - occ i (i ∷ [])
+    here (yes b) = omega (arith, getD-set-same l i (getD l i 0 - 1) 0 b, occ-one i i refl)
+    here (no o) = omega (
+      arith,
+      ap (λ (k : List ℕ). getD k i 0) (set-out l i (getD l i 0 - 1) (omega arith)),
+      List·getD-eq-default l 0 {n = i} (omega arith),
+    )
+
+-- ---- cells join the queue
+
+pub record Enqueued (h after : Heap) (l : List ℕ) : Type 0 where
+  pub kind : after .kind ≡ h .kind
+  pub flags : after .flags ≡ h .flags
+  pub slots : after .slots ≡ h .slots
+  pub roots : after .roots ≡ h .roots
+  pub countLength : length (after .count) ≡ length (h .count)
+  pub queueLength : length (after .queue) ≡ length (h .queue)
+  pub controlLength : length (after .control) ≡ length (h .control)
+  pub count : (x : ℕ) → countOf after x ≡ countOf h x + occ x l
+  pub queuedIs : queued after ≡ queued h + length l
+  pub runningIs : running after ≡ running h
+  pub entriesIs : entries after ≡ entries h ++ map suc l
+  pub rest : (i : ℕ) → queued h + length l ≤ i → getD (after .queue) i 0 ≡ getD (h .queue) i 0
+
+enqueued-none : (h : Heap) → Enqueued h h []
+enqueued-none h = record {
+  kind = refl;
+  flags = refl;
+  slots = refl;
+  roots = refl;
+  countLength = refl;
+  queueLength = refl;
+  controlLength = refl;
+  count = λ x. omega (arith, occ-nil x);
+  queuedIs = omega arith;
+  runningIs = refl;
+  entriesIs = sym (append-nil (entries h));
+  rest = λ i b. refl;
+}
+
+-- the heap with one cell more in the queue
+enqueueOne : Heap → ℕ → Heap
+enqueueOne h c = setCount (enqueue h c) c (suc (countOf h c))
+
+enqueued-one : (h : Heap) (c : ℕ) → length (h .control) ≡ 2 → queued h < length (h .queue) → c < length (h .count) → Enqueued h (enqueueOne h c) (c ∷ [])
+unfolding enqueueOne setCount enqueue setQueue
+enqueued-one h c two room inside =
+    let q : getD (set (h .control) 0 (suc (queued h))) 0 0 ≡ suc (queued h) = getD-set-same (h .control) 0 _ 0 (omega arith) in
+    record {
+      kind = refl;
+      flags = refl;
+      slots = refl;
+      roots = refl;
+      countLength = length-set (h .count) c _;
+      queueLength = length-set (h .queue) _ _;
+      controlLength = length-set (h .control) 0 _;
+      count = raise-at (h .count) c inside;
+      queuedIs = omega arith;
+      runningIs = getD-set-other (h .control) 0 1 _ 0 (omega arith);
+      entriesIs = rw q (take-suc-set (h .queue) (queued h) (suc c) room);
+      rest = λ i b. getD-set-other (h .queue) (queued h) i (suc c) 0 (omega arith);
+    }
+
+enqueued-then : (h g k : Heap) (c : ℕ) (l : List ℕ) → Enqueued h g (c ∷ []) → Enqueued g k l → Enqueued h k (c ∷ l)
+enqueued-then h g k c l a b = record {
+  kind = b .kind ∙ a .kind;
+  flags = b .flags ∙ a .flags;
+  slots = b .slots ∙ a .slots;
+  roots = b .roots ∙ a .roots;
+  countLength = b .countLength ∙ a .countLength;
+  queueLength = b .queueLength ∙ a .queueLength;
+  controlLength = b .controlLength ∙ a .controlLength;
+  count = λ x. omega (arith, a .count x, b .count x, occ-cons x c l);
+  queuedIs = omega (arith, a .queuedIs, b .queuedIs);
+  runningIs = b .runningIs ∙ a .runningIs;
+  entriesIs = b .entriesIs ∙ ap {B = List ℕ} (λ e. e ++ map suc l) (a .entriesIs) ∙ append-assoc (entries h) (suc c ∷ []) (map suc l);
+  rest = λ i r. b .rest i (omega (arith, a .queuedIs)) ∙ a .rest i (omega arith);
+}
+
+pub enqueued : (h : Heap) (l : List ℕ) → length (h .control) ≡ 2 → queued h + length l ≤ length (h .queue)
+    → ((x : ℕ) → 1 ≤ occ x l → x < length (h .count)) → Enqueued h (enqueueAll h l) l
+unfolding enqueueAll enqueueOne
+enqueued h [] two room inside = enqueued-none h
+enqueued h (c ∷ l) two room inside =
+    let one : Enqueued h (enqueueOne h c) (c ∷ []) = enqueued-one h c two (omega arith) (inside c (omega (arith, occ-here c l))) in
+    enqueued-then h (enqueueOne h c) _ c l one
+    (enqueued (enqueueOne h c) l (one .controlLength ∙ two) (omega (arith, one .queuedIs, one .queueLength))
+    (λ x b. omega (arith, one .countLength, inside x (omega (arith, occ-cons x c l)))))
+
+-- ---- references come off their targets' counts
+
+-- only the counts differ
+pub record Lowered (h after : Heap) (less : ℕ → ℕ) : Type 0 where
+  pub kind : after .kind ≡ h .kind
+  pub flags : after .flags ≡ h .flags
+  pub slots : after .slots ≡ h .slots
+  pub roots : after .roots ≡ h .roots
+  pub queue : after .queue ≡ h .queue
+  pub control : after .control ≡ h .control
+  pub countLength : length (after .count) ≡ length (h .count)
+  pub count : (x : ℕ) → countOf after x ≡ countOf h x - less x
+
+lowered-then : (h g k : Heap) (f e t : ℕ → ℕ) → ((x : ℕ) → f x + e x ≡ t x) → Lowered h g f → Lowered g k e → Lowered h k t
+lowered-then h g k f e t sum a b = record {
+  kind = b .kind ∙ a .kind;
+  flags = b .flags ∙ a .flags;
+  slots = b .slots ∙ a .slots;
+  roots = b .roots ∙ a .roots;
+  queue = b .queue ∙ a .queue;
+  control = b .control ∙ a .control;
+  countLength = b .countLength ∙ a .countLength;
+  count = λ x. omega (arith, a .count x, b .count x, sum x);
+}
+
+lowered-none : (h : Heap) (t : ℕ → ℕ) → ((x : ℕ) → t x ≡ 0) → Lowered h h t
+lowered-none h t z = record { kind = refl; flags = refl; slots = refl; roots = refl; queue = refl; control = refl; countLength = refl; count = λ x. omega (arith, z x) }
+
+lowered-one : (h : Heap) (c : ℕ) → Lowered h (setCount h c (countOf h c - 1)) (λ x. occ x (c ∷ []))
+unfolding setCount
+lowered-one h c = record {
+  kind = refl;
+  flags = refl;
+  slots = refl;
+  roots = refl;
+  queue = refl;
+  control = refl;
+  countLength = length-set (h .count) c _;
+  count = lower-at (h .count) c;
+}
+
+-- a reference names a cell exactly where their numbers do
+occ-suc : (x c : ℕ) → occ (suc x) (suc c ∷ []) ≡ occ x (c ∷ [])
+occ-suc x c = by-cases (ℕ-discrete x c) (λ e. occ-one (suc x) (suc c) (ap suc e) ∙ sym (occ-one x c e)) (λ n. occ-other (suc x) (suc c) (λ e. n (omega arith)) ∙ sym (occ-other x c n))
+
+pub lowered : (h : Heap) (l : List ℕ) → Lowered h (lowerAll h l) (λ x. occ (suc x) l)
+unfolding lowerAll
+lowered h [] = lowered-none h _ (λ x. occ-nil (suc x))
+lowered h (zero ∷ l) =
+    lowered-then h h _ (λ x. occ (suc x) (0 ∷ [])) (λ x. occ (suc x) l) _ (λ x. sym (occ-cons (suc x) 0 l))
+    (lowered-none h _ (λ x. occ-other (suc x) 0 (λ e. omega arith))) (lowered h l)
+lowered h (suc c ∷ l) =
+    lowered-then h _ _ (λ x. occ x (c ∷ [])) (λ x. occ (suc x) l) _ (λ x. omega (arith, occ-cons (suc x) (suc c) l, occ-suc x c))
+    (lowered-one h c) (lowered _ l)
+
+-- how often the slots of a list of cells hold x
+unfoldable pub heldBy : List ℕ → List ℕ → ℕ → ℕ
+heldBy slots [] x = 0
+heldBy slots (c ∷ l) x = occ x (slotsOf slots c) + heldBy slots l x
+
+pub unlinked : (h : Heap) (l : List ℕ) → Lowered h (unlinkAll h l) (λ x. heldBy (h .slots) l (suc x))
+unfolding unlinkAll heldBy
+unlinked h [] = lowered-none h _ (λ x. refl)
+unlinked h (c ∷ l) =
+    let s : List ℕ = slotsOf (h .slots) c in
+    let one : Lowered h (lowerAll h s) (λ x. occ (suc x) s) = lowered h s in
+    lowered-then h (lowerAll h s) _ (λ x. occ (suc x) s) (λ x. heldBy (lowerAll h s .slots) l (suc x)) _
+    (λ x. ap (λ (k : List ℕ). occ (suc x) s + heldBy k l (suc x)) (one .slots)) one (unlinked (lowerAll h s) l)
+
+-- ---- cells become all zeros
+
+-- the cells of l are all zeros, the others are as they were
+pub record Wiped (h after : Heap) (l : List ℕ) : Type 0 where
+  pub roots : after .roots ≡ h .roots
+  pub queue : after .queue ≡ h .queue
+  pub control : after .control ≡ h .control
+  pub kindLength : length (after .kind) ≡ length (h .kind)
+  pub flagsLength : length (after .flags) ≡ length (h .flags)
+  pub countLength : length (after .count) ≡ length (h .count)
+  pub slotsLength : length (after .slots) ≡ length (h .slots)
+  pub kindOut : (x : ℕ) → occ x l ≡ 0 → kindOf after x ≡ kindOf h x
+  pub flagsOut : (x : ℕ) → occ x l ≡ 0 → flagsOf after x ≡ flagsOf h x
+  pub countOut : (x : ℕ) → occ x l ≡ 0 → countOf after x ≡ countOf h x
+  pub slotsOut : (x s : ℕ) → s < 8 → occ x l ≡ 0 → slotOf after x s ≡ slotOf h x s
+  pub kindIn : (x : ℕ) → 1 ≤ occ x l → kindOf after x ≡ 0
+  pub flagsIn : (x : ℕ) → 1 ≤ occ x l → flagsOf after x ≡ 0
+  pub countIn : (x : ℕ) → 1 ≤ occ x l → countOf after x ≡ 0
+  pub slotsIn : (x s : ℕ) → s < 8 → 1 ≤ occ x l → slotOf after x s ≡ 0
+  pub slotsOcc : (y : ℕ) → occ (suc y) (after .slots) + heldBy (h .slots) l (suc y) ≡ occ (suc y) (h .slots)
+
+not-only : (x c : ℕ) → occ x (c ∷ []) ≡ 0 → x ≢ c
+not-only x c z e = omega (arith, occ-one x c e)
+
+cleared-in : (l : List ℕ) (c x : ℕ) → 1 ≤ occ x (c ∷ []) → getD (set l c 0) x 0 ≡ 0
+cleared-in l c x i = ap (λ (y : ℕ). getD (set l c 0) y 0) (occ-single x c i) ∙ set-here l c
+
+wiped-one : (h : Heap) (c : ℕ) → 8 * c + 8 ≤ length (h .slots) → Wiped h (wipe h c) (c ∷ [])
+unfolding wipe heldBy slotsOf
+wiped-one h c room = record {
+  roots = refl;
+  queue = refl;
+  control = refl;
+  kindLength = length-set (h .kind) c 0;
+  flagsLength = length-set (h .flags) c 0;
+  countLength = length-set (h .count) c 0;
+  slotsLength = length-sets (h .slots) (8 * c) (replicate 8 0);
+  kindOut = λ x o. getD-set-other (h .kind) c x 0 0 (not-only x c o);
+  flagsOut = λ x o. getD-set-other (h .flags) c x 0 0 (not-only x c o);
+  countOut = λ x o. getD-set-other (h .count) c x 0 0 (not-only x c o);
+  slotsOut = λ x s b o. zeros-out 8 (h .slots) (8 * c) (8 * x + s) (apart x c s b (not-only x c o));
+  kindIn = cleared-in (h .kind) c;
+  flagsIn = cleared-in (h .flags) c;
+  countIn = cleared-in (h .count) c;
+  slotsIn = λ x s b i. let e : x ≡ c = occ-single x c i in zeros-in 8 (h .slots) (8 * c) (8 * x + s) (omega arith) (omega arith);
+  slotsOcc = λ y. omega (arith, occ-cleared 8 (h .slots) (8 * c) y room);
+}
+
+-- the slots of another cell are not touched
+wiped-others : (h : Heap) (c d : ℕ) → d ≢ c → slotsOf (wipe h c .slots) d ≡ slotsOf (h .slots) d
+unfolding wipe
+wiped-others h c d n =
+    ext-getD 0 (slotsOf k d) (slotsOf (h .slots) d) (short (length-sets (h .slots) (8 * c) (replicate 8 0)))
+    (λ i b.
+    let i8 : i < 8 = omega (arith, slots-most k d) in
+    slot-entry k d i i8 ∙ zeros-out 8 (h .slots) (8 * c) (8 * d + i) (apart d c i i8 n) ∙ sym (slot-entry (h .slots) d i i8))
+  where
+    k : List ℕ
+    k = sets (h .slots) (8 * c) (replicate 8 0)
+
+    short : length k ≡ length (h .slots) → length (slotsOf k d) ≡ length (slotsOf (h .slots) d)
+    short e = unfold slotsOf in simp (length-take, length-drop, e)
+
+heldBy-others : (h : Heap) (c : ℕ) (l : List ℕ) → occ c l ≡ 0 → (y : ℕ) → heldBy (wipe h c .slots) l y ≡ heldBy (h .slots) l y
+unfolding heldBy
+heldBy-others h c [] o y = refl
+heldBy-others h c (d ∷ l) o y =
+    let n : d ≢ c = λ e. omega (arith, occ-cons c d l, occ-one c d (sym e)) in
+    omega (arith, ap (occ y) (wiped-others h c d n), heldBy-others h c l (omega (arith, occ-cons c d l)) y)
+
+wiped-then : (h k : Heap) (c : ℕ) (l : List ℕ) → occ c l ≡ 0 → Wiped h (wipe h c) (c ∷ []) → Wiped (wipe h c) k l → Wiped h k (c ∷ l)
+unfolding heldBy
+wiped-then h k c l o a b =
+    let sum : (x : ℕ) → occ x (c ∷ l) ≡ occ x (c ∷ []) + occ x l = λ x. occ-cons x c l in
+    record {
+      roots = b .roots ∙ a .roots;
+      queue = b .queue ∙ a .queue;
+      control = b .control ∙ a .control;
+      kindLength = b .kindLength ∙ a .kindLength;
+      flagsLength = b .flagsLength ∙ a .flagsLength;
+      countLength = b .countLength ∙ a .countLength;
+      slotsLength = b .slotsLength ∙ a .slotsLength;
+      kindOut = λ x z. b .kindOut x (omega (arith, sum x)) ∙ a .kindOut x (omega (arith, sum x));
+      flagsOut = λ x z. b .flagsOut x (omega (arith, sum x)) ∙ a .flagsOut x (omega (arith, sum x));
+      countOut = λ x z. b .countOut x (omega (arith, sum x)) ∙ a .countOut x (omega (arith, sum x));
+      slotsOut = λ x s t z. b .slotsOut x s t (omega (arith, sum x)) ∙ a .slotsOut x s t (omega (arith, sum x));
+      kindIn = λ x i. by-cases (ℕ-discrete (occ x l) 0) (λ z. b .kindOut x z ∙ a .kindIn x (omega (arith, sum x))) (λ n. b .kindIn x (omega arith));
+      flagsIn = λ x i. by-cases (ℕ-discrete (occ x l) 0) (λ z. b .flagsOut x z ∙ a .flagsIn x (omega (arith, sum x))) (λ n. b .flagsIn x (omega arith));
+      countIn = λ x i. by-cases (ℕ-discrete (occ x l) 0) (λ z. b .countOut x z ∙ a .countIn x (omega (arith, sum x))) (λ n. b .countIn x (omega arith));
+      slotsIn = λ x s t i. by-cases (ℕ-discrete (occ x l) 0) (λ z. b .slotsOut x s t z ∙ a .slotsIn x s t (omega (arith, sum x))) (λ n. b .slotsIn x s t (omega arith));
+      slotsOcc = λ y. omega (arith, a .slotsOcc y, b .slotsOcc y, heldBy-others h c l o (suc y));
+    }
+
+wiped-none : (h : Heap) → Wiped h h []
+unfolding heldBy
+wiped-none h = record {
+  roots = refl;
+  queue = refl;
+  control = refl;
+  kindLength = refl;
+  flagsLength = refl;
+  countLength = refl;
+  slotsLength = refl;
+  kindOut = λ x o. refl;
+  flagsOut = λ x o. refl;
+  countOut = λ x o. refl;
+  slotsOut = λ x s b o. refl;
+  kindIn = λ x i. absurd (omega (arith, occ-nil x));
+  flagsIn = λ x i. absurd (omega (arith, occ-nil x));
+  countIn = λ x i. absurd (omega (arith, occ-nil x));
+  slotsIn = λ x s b i. absurd (omega (arith, occ-nil x));
+  slotsOcc = λ y. omega arith;
+}
+
+pub wiped : (h : Heap) (l : List ℕ) → ((x : ℕ) → occ x l ≤ 1) → ((x : ℕ) → 1 ≤ occ x l → 8 * x + 8 ≤ length (h .slots)) → Wiped h (wipeAll h l) l
+unfolding wipeAll
+wiped h [] once inside = wiped-none h
+wiped h (c ∷ l) once inside =
+    let one : Wiped h (wipe h c) (c ∷ []) = wiped-one h c (inside c (omega (arith, occ-here c l))) in
+    wiped-then h _ c l (omega (arith, once c, occ-here c l)) one
+    (wiped (wipe h c) l (λ x. omega (arith, once x, occ-cons x c l)) (λ x b. omega (arith, one .slotsLength, inside x (omega (arith, occ-cons x c l)))))
+
+-- ---- the rescued
+
+pub record Rescued (h after : Heap) (l : List ℕ) : Type 0 where
+  pub kind : after .kind ≡ h .kind
+  pub count : after .count ≡ h .count
+  pub slots : after .slots ≡ h .slots
+  pub roots : after .roots ≡ h .roots
+  pub queue : after .queue ≡ h .queue
+  pub control : after .control ≡ h .control
+  pub flagsLength : length (after .flags) ≡ length (h .flags)
+  pub flagsOut : (x : ℕ) → occ x l ≡ 0 → flagsOf after x ≡ flagsOf h x
+  pub flagsIn : (x : ℕ) → 1 ≤ occ x l → flagsOf after x ≡ 1
+
+pub rescued-all : (h : Heap) (l : List ℕ) → ((x : ℕ) → 1 ≤ occ x l → x < length (h .flags)) → Rescued h (rescueAll h l) l
+unfolding rescueAll setFlags
+rescued-all h [] inside = record {
+  kind = refl;
+  count = refl;
+  slots = refl;
+  roots = refl;
+  queue = refl;
+  control = refl;
+  flagsLength = refl;
+  flagsOut = λ x o. refl;
+  flagsIn = λ x i. absurd (omega (arith, occ-nil x));
+}
+rescued-all h (c ∷ l) inside =
+    let sum : (x : ℕ) → occ x (c ∷ l) ≡ occ x (c ∷ []) + occ x l = λ x. occ-cons x c l in
+    let b : Rescued (setFlags h c 1) (rescueAll (setFlags h c 1) l) l =
+    rescued-all (setFlags h c 1) l (λ x i. omega (arith, length-set (h .flags) c 1, inside x (omega (arith, sum x)))) in
+    record {
+      kind = b .kind;
+      count = b .count;
+      slots = b .slots;
+      roots = b .roots;
+      queue = b .queue;
+      control = b .control;
+      flagsLength = b .flagsLength ∙ length-set (h .flags) c 1;
+      flagsOut = λ x o. b .flagsOut x (omega (arith, sum x)) ∙ getD-set-other (h .flags) c x 1 0 (not-only x c (omega (arith, sum x)));
+      flagsIn = λ x i. by-cases (ℕ-discrete (occ x l) 0)
+          (λ z.
+          let e : x ≡ c = occ-single x c (omega (arith, sum x)) in
+          b .flagsOut x z ∙ (rw e (getD-set-same (h .flags) c 1 0 (inside c (omega (arith, occ-here c l))))))
+          (λ n. b .flagsIn x (omega arith));
+    }

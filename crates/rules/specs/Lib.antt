@@ -1,0 +1,14 @@
+pub mod Lists
+pub mod Heap
+pub mod Sound
+pub mod Check
+pub mod Reach
+pub mod Refusals
+pub mod Release
+pub mod Marking
+pub mod Depth
+pub mod Collect
+pub mod Calls
+pub mod Numbers
+pub mod Claim
+pub mod CounterBook
