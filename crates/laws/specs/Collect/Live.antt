@@ -27,7 +27,7 @@ use Rattle.laws.specs.Marking.Closure.{closure-length, closure-keeps, cl
 use Rattle.laws.specs.Sound.But.{SoundBut}
 use Rattle.laws.specs.Release.Decref.{finalizable-kind, finalizable-flags}
 use Rattle.laws.specs.Reach.Used.{holds-occ}
-use Rattle.laws.specs.Reach.Marked.{link-names, names-link, slots-within, reached-length, reached-settled, reached-marked}
+use Rattle.laws.specs.Reach.Marked.{link-names, names-link, slots-within, reached-length, reached-settled, reached-only, reached-held}
 
 -- an object with flags 1
 of-finalizable : (h : Heap) (c : ℕ) → kindOf h c ≡ 1 → flagsOf h c ≡ 1 → finalizable h c ≡ true
@@ -46,12 +46,6 @@ pub record Due (h : Heap) (c : ℕ) : Type 0 where
   pub unreached : ¬ Reached h c
 
 module _ (h : Heap) (s : SoundBut h []) where
-  reached-held : (c : ℕ) → Reached h c → Held (reachedMarks h) c
-  reached-held c r = omega (arith, reached-marked h s c .1 r)
-
-  held-reached : (c : ℕ) → Held (reachedMarks h) c → Reached h c
-  held-reached c m = reached-marked h s c .0 (omega (arith, reached-settled h s .bits c))
-
   -- ---- the cells that are due for a finalizer
 
   pub due-only : (c : ℕ) → 1 ≤ occ c (unreachedFinalizable h) → Due h c
@@ -60,12 +54,12 @@ module _ (h : Heap) (s : SoundBut h []) where
       let r = select-only (λ d. finalizable h d && eqb (getD (reachedMarks h) d 0) 0) (cells h) c b in
       let f : finalizable h c ≡ true = and-left (finalizable h c) _ (r .1) in
       let z : getD (reachedMarks h) c 0 ≡ 0 = eqb-true _ 0 (and-right (finalizable h c) _ (r .1)) in
-      record { range = r .0; object = finalizable-kind h c f; flagged = finalizable-flags h c f; unreached = λ x. omega (arith, reached-held c x) }
+      record { range = r .0; object = finalizable-kind h c f; flagged = finalizable-flags h c f; unreached = λ x. omega (arith, reached-held h s c x) }
 
   pub due-in : (c : ℕ) → kindOf h c ≡ 1 → flagsOf h c ≡ 1 → ¬ Reached h c → 1 ≤ occ c (unreachedFinalizable h)
   unfolding unreachedFinalizable
   due-in c k f n =
-      let z : getD (reachedMarks h) c 0 ≡ 0 = none-of (getD (reachedMarks h) c 0) (λ m. n (held-reached c m)) in
+      let z : getD (reachedMarks h) c 0 ≡ 0 = none-of (getD (reachedMarks h) c 0) (λ m. n (reached-only h s c m)) in
       select-in (λ d. finalizable h d && eqb (getD (reachedMarks h) d 0) 0) (cells h) c (inside (h .kind) c (omega arith))
       (and-join (of-finalizable h c k f) (eq-eqb _ 0 z))
 
@@ -94,7 +88,7 @@ module _ (h : Heap) (s : SoundBut h []) where
 
   pub live-reached : (c : ℕ) → Reached h c → Live h c
   unfolding keptMarks
-  live-reached c r = closure-keeps (h .slots) (reachedMarks h) (map suc (unreachedFinalizable h)) c (reached-held c r)
+  live-reached c r = closure-keeps (h .slots) (reachedMarks h) (map suc (unreachedFinalizable h)) c (reached-held h s c r)
 
   -- a table of cells that are due has no entry above N
   due-within : Within (length (reachedMarks h)) (map suc (unreachedFinalizable h))
@@ -117,7 +111,7 @@ module _ (h : Heap) (s : SoundBut h []) where
   unfolding keptMarks
   live-least along reached due =
       closure-least (h .slots) (reachedMarks h) (map suc (unreachedFinalizable h)) (λ p c x n. along p c x (names-link (h .slots) p c n))
-      (λ c m. reached c (held-reached c m)) (λ c n. due c (names-due c n))
+      (λ c m. reached c (reached-only h s c m)) (λ c n. due c (names-due c n))
 
   -- ---- the garbage
 

@@ -20,7 +20,7 @@ use Rattle.laws.specs.Lists.Tests.{none-of, and-left}
 use Rattle.laws.specs.Lists.Occ.{Stands, occ-nil, occ-append, occ-find, occ-empty, occ-refs, zero-refs}
 use Rattle.laws.specs.Lists.Select.{select-only}
 use Rattle.laws.specs.Sound.But.{refit, Shaped, QueueOk, SoundBut}
-use Rattle.laws.specs.Reach.Used.{holds-occ, reached-used}
+use Rattle.laws.specs.Reach.Used.{holds-occ, link-owner, reached-used}
 use Rattle.laws.specs.Reach.Safe.{Kept}
 use Rattle.laws.specs.Collect.Phases.{Enqueued, enqueued, Lowered, heldBy, unlinked, Wiped, wiped, Rescued, rescued-all}
 use Rattle.laws.specs.Collect.Live.{Live, due-only, live-reached, live-due, live-link, live-least, garbage-only, garbage-once, live-out, out-live, entry-reached, queued-once, due-room}
@@ -134,6 +134,10 @@ module _ (h : Heap) (s : SoundBut h []) where
         ap (occ (suc c)) slots2,
       )
 
+  -- no count meets zero in the first round: what comes off a cell was counted there
+  pub unlink-counted : (c : ℕ) → heldBy (h .slots) (garbage h) (suc c) ≤ countOf h c
+  unlink-counted c = omega (arith, slots-occ c, s .counted c)
+
   roots-same : final .roots ≡ h .roots
   roots-same = phase4 .roots ∙ phase3 .roots ∙ phase2 .roots ∙ phase1 .roots
 
@@ -169,9 +173,6 @@ module _ (h : Heap) (s : SoundBut h []) where
   used-live : (c : ℕ) → Used final c → Live h c
   used-live c u = out-live h s c (used-before c u) (used-out c u)
 
-  live-used : (c : ℕ) → Used h c → Live h c → Used final c
-  live-used c u m = omega (arith, kind-out c (live-out h s c m))
-
   -- a link of a live cell stands after the sweep
   link-kept : (p c : ℕ) → Live h p → Link (h .slots) p c → Link (final .slots) p c
   link-kept p c m k = record { slot = k .slot; inCell = k .inCell; holds = slots-out p (k .slot) (k .inCell) (live-out h s p m) ∙ k .holds }
@@ -183,11 +184,7 @@ module _ (h : Heap) (s : SoundBut h []) where
       (λ n.
       let o : occ p dead ≡ 0 = omega arith in
       let was : Link (h .slots) p c = record { slot = k .slot; inCell = k .inCell; holds = sym (slots-out p (k .slot) (k .inCell) o) ∙ k .holds } in
-      (out-live h s p (owner p was) o, was))
-    where
-      -- a free cell's slots are empty
-      owner : (p : ℕ) → Link (h .slots) p c → Used h p
-      owner p k = by-cases (ℕ-discrete (kindOf h p) 0) (λ z. absurd (omega (arith, s .shaped .freeSlots p (k .slot) (k .inCell) z, k .holds))) (λ n. omega arith)
+      (out-live h s p (link-owner h [] s p c was) o, was))
 
   -- ---- counts
 

@@ -10,14 +10,14 @@ use mathlib.Core.Logic.{_≢_, _↔_, _⊎_, inl, inr, by-cases}
 use lib.ListN.{length, getD, set, replicate, length-set, length-replicate}
 use lib.Seq.{getD-set-other}
 use Rattle.rules.specs.Lists.{occ}
-use Rattle.rules.specs.Heap.{Heap, cells, kindOf, entries, Used}
+use Rattle.rules.specs.Heap.{Heap, cells, entries}
 use Rattle.rules.specs.Reach.{Holds, Link, Reached, Exact, Loose, LooseChain, LooseRing}
 use Rattle.rules.specs.Reach.Chain.{root, entry, further}
 use Rattle.rules.specs.Reach.LooseChain.{one, more}
 use Rattle.laws.specs.Lists.Tables.{inside, getD-zeros}
 use Rattle.laws.specs.Lists.Occ.{Stands, occ-nil, occ-find, occ-none, occ-set, occ-length, occ-one, occ-other}
 use Rattle.laws.specs.Sound.But.{SoundBut}
-use Rattle.laws.specs.Reach.Used.{reached-used}
+use Rattle.laws.specs.Reach.Used.{link-owner, reached-used}
 
 -- a loose cell that refers to c
 record Before (h : Heap) (c : ℕ) : Type 0 where
@@ -36,13 +36,9 @@ module _ (h : Heap) (s : SoundBut h []) where
       let link : Link (h .slots) (slot .at / 8) c = record { slot = slot .at % 8; inCell = omega arith; holds = holds } in
       record {
         cell = slot .at / 8;
-        loose = record { used = owns (slot .at / 8) link; unreached = λ r. l .unreached (further r link) };
+        loose = record { used = link-owner h [] s (slot .at / 8) c link; unreached = λ r. l .unreached (further r link) };
         link = link;
       }
-    where
-      -- a free cell's slots are empty
-      owns : (p : ℕ) → Link (h .slots) p c → Used h p
-      owns p k = by-cases (ℕ-discrete (kindOf h p) 0) (λ z. absurd (omega (arith, s .shaped .freeSlots p (k .slot) (k .inCell) z, k .holds))) (λ n. omega arith)
 
   -- the walk: every marked cell is the cell b where it stands, or a chain leads to it from there
   walk : (fuel : ℕ) (m : List ℕ) (b : ℕ) → occ 0 m < fuel → length m ≡ cells h → Loose h b

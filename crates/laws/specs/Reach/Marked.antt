@@ -70,14 +70,14 @@ module _ (h : Heap) (s : SoundBut h []) where
   unfolding reachedMarks
   reached-lists = closure-lists (h .slots) (replicate (cells h) 0) (h .roots ++ entries h) (rw length-replicate (within-append (h .roots) (entries h) roots-within entries-within))
 
-  reached-only : Only (Reached h) (reachedMarks h)
+  pub reached-only : Only (Reached h) (reachedMarks h)
   unfolding reachedMarks
   reached-only =
       closure-least (h .slots) (replicate (cells h) 0) (h .roots ++ entries h) (chain-closed (h .roots) (entries h) (h .slots))
       (λ d x. absurd (omega (arith, getD-zeros (cells h) d)))
       (λ d n. ⊎-elim (λ r. root (r .0) (r .1)) (λ q. entry (q .0) (q .1)) (names-append (h .roots) (entries h) d n))
 
-  reached-held : (c : ℕ) → Reached h c → Held (reachedMarks h) c
+  pub reached-held : (c : ℕ) → Reached h c → Held (reachedMarks h) c
   reached-held =
       chain-held (h .roots) (entries h) (h .slots) (reachedMarks h) (reached-settled .closed)
       (λ d n. reached-lists d (names-left (h .roots) (entries h) d n))

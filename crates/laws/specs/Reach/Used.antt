@@ -1,10 +1,11 @@
 -- What is referred to is in use, so a cell that roots and queue reach is in use.
 -- Assumes nothing.
 use Prim.Native.Nat.{ℕ, suc, _+_, _*_, _≤_}
+use native.Mathlib.Decide.{ℕ-discrete}
 use native.Mathlib.Omega.{arith}
 use mathlib.Core.List.{List}
 use Rattle.rules.specs.Lists.{occ}
-use Rattle.rules.specs.Heap.{Heap, entries, Used}
+use Rattle.rules.specs.Heap.{Heap, kindOf, entries, Used}
 use Rattle.rules.specs.Reach.{Holds, Link, Chain, Reached}
 use Rattle.rules.specs.Reach.Chain.{root, entry, further}
 use Rattle.laws.specs.Lists.Tables.{inside}
@@ -27,6 +28,10 @@ module _ (h : Heap) (extra : List ℕ) (s : SoundBut h extra) where
 
   pub link-used : (p c : ℕ) → Link (h .slots) p c → Used h c
   link-used p c k = slot-used (8 * p + k .slot) c (k .holds)
+
+  -- a free cell's slots are empty, so the cell that a link goes from is used
+  pub link-owner : (p c : ℕ) → Link (h .slots) p c → Used h p
+  link-owner p c k = elim (ℕ-discrete (kindOf h p) 0) [ yes z ↦ absurd (omega (arith, s .shaped .freeSlots p (k .slot) (k .inCell) z, k .holds)) | no n ↦ omega arith ]
 
   -- by the slots as they stand, or as they stood: it is enough that a used cell's lead to used cells
   pub chain-used : (slots : List ℕ) → ((p c : ℕ) → Used h p → Link slots p c → Used h c) → (c : ℕ) → Chain (h .roots) (entries h) slots c → Used h c
