@@ -20,7 +20,9 @@ PLACES = [
     r"docs/[A-Z]+\.md",
     r"docs/changes/Q-\d\d\.md",
     r"tests/[a-z_]+\.(py|c)",
-    r"tests/edits/[a-z0-9_]+\.edit",
+    r"tests/edits/[a-z_]+/[a-z0-9_]+\.edit",
+    r"bench/[a-z]+\.(c|h|py)",
+    r"include/vekszalir\.h",
 ]
 
 # What a crate may hold.

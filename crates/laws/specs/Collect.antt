@@ -1,4 +1,5 @@
 -- COLLECT: its phases table by table, what it marks, and what it makes of a sound heap.
 pub mod Phases
+pub mod Append
 pub mod Live
 pub mod Swept

@@ -31,6 +31,7 @@ pub const NONE: u16 = 9;
 pub const IDLE: u16 = 10;
 
 // What a call answers: DONE or why it was refused, how many cells it freed and queued, and the cell that NEW made.
+#[repr(C)]
 pub struct Answer {
     pub refused: u16,
     pub freed: u16,

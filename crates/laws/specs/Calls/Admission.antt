@@ -145,3 +145,26 @@ fresh-ready n l m =
         rule6 = λ c u. absurd (omega (arith, getD-zeros n c));
       };
     }
+
+-- ---- an outer function
+
+-- `admit` answered a refusal, which the call answers
+pub outer-refused : {h : Heap} {call : Call} {why : ℕ} {a : Answer} → isFresh call ≡ false → why ≡ admission h → why ≢ 0 → a ≡ answers why 0 0 0
+    → Did call h h a
+outer-refused {h} {call} {why} n e some a = rw a (did-refuse h call why (e ∙ not-admitted h call n (λ z. some (e ∙ z))) some)
+
+-- `admit` answered DONE, so the inner function may go on
+pub outer-ready : {h : Heap} {why : ℕ} → why ≡ admission h → why ≡ 0 → Ready h
+outer-ready {h} e z = ready h (sym e ∙ z)
+
+-- ---- an inner function
+
+-- refused by one of the call's own conditions, of `Calls.Cases`
+pub inner-refused : {h : Heap} {call : Call} {why : ℕ} {a : Answer} → Ready h → isFresh call ≡ false → refusalSound h call ≡ why → why ≢ 0 → a ≡ answers why 0 0 0
+    → Did call h h a
+inner-refused {h} {call} {why} r n e some a = rw a (did-refuse h call why (sym (ready-refused h call r n ∙ e)) some)
+
+-- none of them, and done
+pub inner-done : {h after : Heap} {call : Call} {a : Answer} → Ready h → isFresh call ≡ false → refusalSound h call ≡ 0
+    → after ≡ act h call .heap → a ≡ act h call .answer → Did call h after a
+inner-done {h} {after} {call} {a} r n e heap answered = did-act h after call a (ready-refused h call r n ∙ e) heap answered

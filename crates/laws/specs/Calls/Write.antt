@@ -8,12 +8,10 @@ use mathlib.Core.Path.{_≡_, refl, ap, _∙_}
 use lib.ListN.{length, getD, set, length-set}
 use lib.Seq.{getD-set-same, getD-set-other}
 use Rattle.rules.specs.Heap.{Heap, kindOf, countOf, slotOf, rootAt, setRoot, setSlot}
-use Rattle.rules.specs.Release.{start, raise, incref}
-use Rattle.rules.specs.Calls.{writeRoot, writeSlot}
+use Rattle.rules.specs.Release.{raise, incref}
 use Rattle.laws.specs.Lists.Tables.{by-cell, inside}
 use Rattle.laws.specs.Lists.Occ.{occ-here, occ-there, occ-cons, occ-length, occ-set}
 use Rattle.laws.specs.Sound.But.{refit, SoundBut}
-use Rattle.laws.specs.Release.Taken.{ReleaseLaw, release-sound}
 
 -- a count is raised: one reference more is counted
 pub incref-sound : (h : Heap) (r : ℕ) (extra : List ℕ) → ((c : ℕ) → r ≡ suc c → 1 ≤ kindOf h c) → SoundBut h extra → SoundBut (incref h r) (r ∷ extra)
@@ -111,14 +109,3 @@ pub write-slot-ready : (h : Heap) (c k r : ℕ) → k < 8 → kindOf h c ≡ 1 �
     → SoundBut (setSlot (incref h r) (8 * c + k) r) (slotOf h c k ∷ [])
 unfolding incref
 write-slot-ready h c k r small object used s = slot-sound (incref h r) c k r [] small object (incref-sound h r [] used s)
-
--- the whole write keeps the heap sound
-pub write-root-sound : (h : Heap) (to r : ℕ) → to < 64 → ((c : ℕ) → r ≡ suc c → 1 ≤ kindOf h c) → SoundBut h []
-    → ReleaseLaw (start (setRoot (incref h r) to r)) (writeRoot h to r) []
-unfolding start writeRoot
-write-root-sound h to r small used s = release-sound (start (setRoot (incref h r) to r)) (rootAt h to) [] refl (write-root-ready h to r small used s)
-
-pub write-slot-sound : (h : Heap) (c k r : ℕ) → k < 8 → kindOf h c ≡ 1 → ((d : ℕ) → r ≡ suc d → 1 ≤ kindOf h d) → SoundBut h []
-    → ReleaseLaw (start (setSlot (incref h r) (8 * c + k) r)) (writeSlot h c k r) []
-unfolding start writeSlot
-write-slot-sound h c k r small object used s = release-sound (start (setSlot (incref h r) (8 * c + k) r)) (slotOf h c k) [] refl (write-slot-ready h c k r small object used s)

@@ -91,7 +91,7 @@ module _ (h : Heap) (s : SoundBut h []) where
   live-reached c r = closure-keeps (h .slots) (reachedMarks h) (map suc (unreachedFinalizable h)) c (reached-held h s c r)
 
   -- a table of cells that are due has no entry above N
-  due-within : Within (length (reachedMarks h)) (map suc (unreachedFinalizable h))
+  pub due-within : Within (length (reachedMarks h)) (map suc (unreachedFinalizable h))
   due-within i = go (getD (map suc (unreachedFinalizable h)) i 0) refl
     where
       go : (x : ℕ) → getD (map suc (unreachedFinalizable h)) i 0 ≡ x → x ≤ length (reachedMarks h)

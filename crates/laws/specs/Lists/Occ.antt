@@ -98,10 +98,6 @@ occ-set x [] i v h = absurd (omega arith)
 occ-set x (y ∷ l) zero v h = omega (arith, occ-cons x v l, occ-cons x y l)
 occ-set x (y ∷ l) (suc i) v h = omega (arith, occ-set x l i v (omega arith), occ-cons x y l, occ-cons x y (set l i v))
 
-pub occ-zeros : (x n : ℕ) → occ (suc x) (replicate n 0) ≡ 0
-occ-zeros x zero = occ-nil (suc x)
-occ-zeros x (suc n) = occ-there (suc x) 0 (replicate n 0) (λ e. omega arith) ∙ occ-zeros x n
-
 -- a run of zeros: what stood in the run, and what stands in the list without it
 pub occ-cleared : (k : ℕ) (l : List ℕ) (i y : ℕ) → i + k ≤ length l → occ (suc y) (sets l i (replicate k 0)) + occ (suc y) (take k (drop i l)) ≡ occ (suc y) l
 occ-cleared zero l i y b = omega (arith, occ-nil (suc y))

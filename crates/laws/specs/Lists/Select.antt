@@ -1,14 +1,15 @@
 -- The numbers below n that pass a test: each once, and just those.
 -- Assumes nothing.
-use Prim.Native.Nat.{ℕ, zero, suc, _≤_, _<_}
+use Prim.Native.Nat.{ℕ, zero, suc, _+_, _≤_, _<_}
 use native.Mathlib.Decide.{ℕ-discrete}
+use native.Mathlib.Numerals.{add-one}
 use native.Mathlib.Omega.{arith}
-use mathlib.Core.List.{List, [], _∷_}
+use mathlib.Core.List.{List, [], _∷_, _++_, append-assoc, append-nil}
 use mathlib.Core.Bool.{Bool, true, false, cond}
 use mathlib.Core.Path.{_≡_, refl, sym, ap, _∙_}
 use lib.ListN.{length}
 use Rattle.rules.specs.Lists.{occ, select}
-use Rattle.laws.specs.Lists.Tests.{clash}
+use Rattle.laws.specs.Lists.Tests.{clash, none-of}
 use Rattle.laws.specs.Lists.Occ.{occ-nil, occ-append, occ-one, occ-other, occ-single}
 use Rattle.laws.specs.Lists.Pigeonhole.{total, length-total}
 
@@ -70,3 +71,25 @@ total-same (suc k) f g same = omega (arith, same k, total-same k f g same)
 pub length-by-occ : (n : ℕ) (l m : List ℕ) → ((x : ℕ) → 1 ≤ occ x l → x < n) → ((x : ℕ) → occ x l ≡ occ x m) → length l ≡ length m
 length-by-occ n l m small same =
     length-total n l small ∙ total-same n (λ x. occ x l) (λ x. occ x m) same ∙ sym (length-total n m (λ x o. small x (omega (arith, same x))))
+
+-- ---- as a loop over the numbers goes through them
+
+-- one number more
+pub select-next : (p : ℕ → Bool) (n : ℕ) → select p (n + 1) ≡ select p n ++ cond (p n) (n ∷ []) []
+unfolding select
+select-next p n = rw add-one refl
+
+-- the numbers to come are not among those passed
+pub select-new : (p : ℕ → Bool) (n : ℕ) → occ n (select p n) ≡ 0
+select-new p n = none-of (occ n (select p n)) (λ o. omega (arith, select-only p n n o))
+
+-- those below c, and the rest
+pub select-rest : (p : ℕ → Bool) (c n : ℕ) → c ≤ n → (rest : List ℕ) × (select p n ≡ select p c ++ rest)
+unfolding select
+select-rest p c zero l = let e : c ≡ 0 = omega arith in ([], rw e refl)
+select-rest p c (suc n) l = elim (ℕ-discrete c (suc n)) [
+  | yes e ↦ ([], rw e (sym (append-nil (select p n ++ cond (p n) (n ∷ []) []))))
+  | no f ↦
+      let r = select-rest p c n (omega arith) in
+      (r .0 ++ cond (p n) (n ∷ []) [], ap (λ (m : List ℕ). m ++ cond (p n) (n ∷ []) []) (r .1) ∙ append-assoc (select p c) (r .0) (cond (p n) (n ∷ []) []))
+]

@@ -8,7 +8,7 @@ use native.Mathlib.Omega.{arith}
 use mathlib.Core.List.{List, [], _∷_}
 use mathlib.Core.Logic.{_≢_, _⊎_, inl, inr, ⊎-elim, by-cases}
 use mathlib.Core.Path.{_≡_, refl, sym, ap, _∙_, subst⁻¹}
-use lib.ListN.{length, getD, take, drop, set, replicate, length-take, length-drop}
+use lib.ListN.{length, getD, drop, set, replicate, length-take, length-drop}
 use lib.Seq.{sets, drop-cons, getD-take, getD-drop, getD-set-other}
 use Rattle.rules.specs.Heap.{slotsOf}
 
@@ -26,13 +26,6 @@ pub getD-zeros : (n i : ℕ) → getD {A = ℕ} (replicate n 0) i 0 ≡ 0
 getD-zeros zero i = refl
 getD-zeros (suc n) zero = refl
 getD-zeros (suc n) (suc i) = getD-zeros n i
-
--- what the front of a table holds, the table holds
-pub take-holds : (n : ℕ) (l : List ℕ) (i c : ℕ) → getD (take n l) i 0 ≡ suc c → getD l i 0 ≡ suc c
-take-holds zero l i c e = absurd (omega arith)
-take-holds (suc n) [] i c e = e
-take-holds (suc n) (x ∷ l) zero c e = e
-take-holds (suc n) (x ∷ l) (suc i) c e = take-holds n l i c e
 
 -- what is left of a table from entry i on: the entry, and the rest
 pub drop-next : (l : List ℕ) (i : ℕ) → i < length l → drop i l ≡ getD l i 0 ∷ drop (i + 1) l

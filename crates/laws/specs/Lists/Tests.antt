@@ -85,9 +85,6 @@ below-at (suc n) p h c l = elim (ℕ-discrete c n) [
   | no m ↦ below-at n p (and-right (p n) (below n p) h) c (omega arith)
 ]
 
-pub below-fails : (n : ℕ) (p : ℕ → Bool) (c : ℕ) → c < n → p c ≡ false → below n p ≡ false
-below-fails n p c l e = fails (below n p) (λ t. clash (below-at n p t c l) e)
-
 -- ---- every entry
 
 pub all-all : (p : ℕ → Bool) (l : List ℕ) → ((i : ℕ) → i < length l → p (getD l i 0) ≡ true) → all p l ≡ true
@@ -100,6 +97,3 @@ unfolding all
 all-at p [] h i m = absurd (omega arith)
 all-at p (x ∷ l) h zero m = and-left (p x) (all p l) h
 all-at p (x ∷ l) h (suc i) m = all-at p l (and-right (p x) (all p l) h) i (omega arith)
-
-pub all-fails : (p : ℕ → Bool) (l : List ℕ) (i : ℕ) → i < length l → p (getD l i 0) ≡ false → all p l ≡ false
-all-fails p l i m e = fails (all p l) (λ t. clash (all-at p l t i m) e)

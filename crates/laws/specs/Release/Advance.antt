@@ -7,8 +7,8 @@ use mathlib.Core.List.{List, [], _∷_, _++_, map, map-append, append-assoc, app
 use mathlib.Core.Bool.{Bool, true, false}
 use mathlib.Core.Logic.{_≢_}
 use mathlib.Core.Path.{_≡_, refl, sym, ap, _∙_}
-use lib.ListN.{length, getD, length-set}
-use lib.Seq.{getD-set-other}
+use lib.ListN.{length, getD, length-set, length-append, length-map}
+use lib.Seq.{getD-set-other, length-take-le}
 use Rattle.laws.specs.Lists.Tests.{none-of}
 use Rattle.rules.specs.Lists.{occ}
 use Rattle.rules.specs.Heap.{queued, running, kindOf, countOf, entries, setCount, setQueue, enqueue, wipe}
@@ -183,3 +183,15 @@ retire-advance w c u =
       entered = sym (append-nil _);
       queued = sym (append-nil _);
     }
+
+-- the queue grows by what joins it
+pub advance-queued : (w v : Work) (cells joined : List ℕ) → Advance w v cells joined
+    → queued (w .heap) ≤ length (w .heap .queue) → queued (v .heap) ≤ length (v .heap .queue) → queued (v .heap) ≡ queued (w .heap) + length joined
+advance-queued w v cells joined a before after = omega (
+  arith,
+  ap length (a .entered),
+  length-append (entries (w .heap)) (map suc joined),
+  length-map joined suc,
+  length-take-le (queued (w .heap)) (w .heap .queue) before,
+  length-take-le (queued (v .heap)) (v .heap .queue) after,
+)

@@ -4,17 +4,17 @@ use Prim.Native.Nat.{ℕ, zero, suc, _+_, _≤_, _<_, _-_}
 use native.Mathlib.Omega.{arith}
 use native.Mathlib.Numerals.{add-one}
 use native.Mathlib.Decide.{ℕ-discrete}
-use mathlib.Core.List.{List, [], _∷_}
-use mathlib.Core.Bool.{Bool, true, false, cond, _&&_, and-false}
-use mathlib.Core.Logic.{_≢_, ⊎-elim, by-cases}
+use mathlib.Core.List.{List, [], _∷_, _++_}
+use mathlib.Core.Bool.{Bool, true, false, cond}
+use mathlib.Core.Logic.{⊎-elim, by-cases}
 use mathlib.Core.Path.{_≡_, refl, _∙_}
 use lib.Dec.{leb, eqb}
-use lib.ListN.{length, getD, drop, set, length-set}
-use lib.Seq.{getD-set-same, getD-set-other, set-out}
-use borrow.Author.Tests.{leb-true, le-leb, lt-leb, eq-eqb, ne-eqb, eqb-true}
-use Rattle.rules.specs.Lists.{occ}
-use Rattle.laws.specs.Lists.Tests.{split, and-left, and-right}
-use Rattle.laws.specs.Lists.Tables.{drop-next, set-cases}
+use lib.ListN.{length, getD, take, set, length-set}
+use lib.Seq.{take-suc, getD-set-same, getD-set-other, set-out}
+use borrow.Author.Tests.{leb-true, le-leb, lt-leb, eqb-true}
+use Rattle.rules.specs.Lists.{all, occ}
+use Rattle.laws.specs.Lists.Tests.{split, and-left}
+use Rattle.laws.specs.Lists.Tables.{set-cases}
 use Rattle.laws.specs.Lists.Occ.{occ-nil, occ-same, occ-there}
 
 -- one reference counted: the counter of the cell that it names goes up by 1. An empty one, and one that names no counter, is skipped.
@@ -26,22 +26,10 @@ unfoldable pub tallied : List ℕ → List ℕ → List ℕ
 tallied refs [] = refs
 tallied refs (x ∷ l) = tallied (counted refs x) l
 
--- the references of roots, slots and the queue's entries, counted
-unfoldable pub references : List ℕ → List ℕ → List ℕ → List ℕ → List ℕ
-references refs roots slots entries = tallied (tallied (tallied refs roots) slots) entries
-
 -- how many entries name none of n cells
 unfoldable pub dangling : ℕ → List ℕ → ℕ
 dangling n [] = 0
 dangling n (x ∷ l) = cond (leb x n) 0 1 + dangling n l
-
--- a cell's count n is r, what was counted, and a used cell's is at least 1; k is its kind
-unfoldable pub countIs : ℕ → ℕ → ℕ → Bool
-countIs k n r = eqb n r && cond (eqb k 0) true (leb 1 n)
-
--- the same of cell c, in the tables kind and count and the counters
-abbrev pub countAt : List ℕ → List ℕ → List ℕ → ℕ → Bool
-countAt k n r c = countIs (getD k c 0) (getD n c 0) (getD r c 0)
 
 -- every counter has room for k more in 16 bits
 abbrev pub Room : List ℕ → ℕ → Type 0
@@ -73,17 +61,6 @@ unfolding tallied
 tallied-at refs [] c m = omega (arith, occ-nil (suc c))
 tallied-at refs (x ∷ l) c m = tallied-at (counted refs x) l c (omega (arith, counted-length refs x)) ∙ counted-at refs x c l m
 
-pub references-at : (refs roots slots entries : List ℕ) (c : ℕ) → c < length refs
-    → getD (references refs roots slots entries) c 0 ≡ getD refs c 0 + occ (suc c) roots + occ (suc c) slots + occ (suc c) entries
-unfolding references
-references-at refs roots slots entries c m =
-    omega (
-      arith,
-      tallied-at refs roots c m,
-      tallied-at (tallied refs roots) slots c (omega (arith, tallied-length refs roots)),
-      tallied-at (tallied (tallied refs roots) slots) entries c (omega (arith, tallied-length refs roots, tallied-length (tallied refs roots) slots)),
-    )
-
 -- ---- no entry dangles exactly if each is at most n
 
 pub dangling-none : (n : ℕ) (l : List ℕ) → dangling n l ≡ 0 → (i : ℕ) → i < length l → getD l i 0 ≤ n
@@ -106,45 +83,31 @@ dangling-length n (x ∷ l) = go (leb x n) (dangling-length n l)
     go true ih = omega arith
     go false ih = omega arith
 
--- ---- countIs by the tests that a program makes, and what it says
+-- ---- one list after another, and one entry more
 
-pub count-differs : (k n r : ℕ) → n ≢ r → countIs k n r ≡ false
-unfolding countIs
-count-differs k n r h = rw (ne-eqb n r h) refl
-
-pub count-free : (k n r : ℕ) → n ≡ r → k ≡ 0 → countIs k n r ≡ true
-unfolding countIs
-count-free k n r h e = rw (eq-eqb n r h, e) refl
-
-pub count-none : (k n r : ℕ) → k ≢ 0 → n ≡ 0 → countIs k n r ≡ false
-unfolding countIs
-count-none k n r u e = rw (ne-eqb k 0 u, e) (and-false (eqb 0 r))
-
-pub count-used : (k n r : ℕ) → n ≡ r → n ≢ 0 → countIs k n r ≡ true
-unfolding countIs
-count-used k n r h u = rw (eq-eqb n r h, le-leb 1 n (omega arith)) (go (eqb k 0))
-  where
-    go : (b : Bool) → cond b true true ≡ true
-    go true = refl
-    go false = refl
-
-pub count-eq : (k n r : ℕ) → countIs k n r ≡ true → n ≡ r
-unfolding countIs
-count-eq k n r p = eqb-true n r (and-left (eqb n r) (cond (eqb k 0) true (leb 1 n)) p)
-
-pub count-pos : (k n r : ℕ) → countIs k n r ≡ true → k ≢ 0 → 1 ≤ n
-unfolding countIs
-count-pos k n r p u = leb-true 1 n (rw (ne-eqb k 0 u) at (and-right (eqb n r) (cond (eqb k 0) true (leb 1 n)) p))
-
--- ---- one turn of a loop over a table: the entry at i, and what is left after it
-
-pub tallied-next : (refs l : List ℕ) (i : ℕ) → i < length l → tallied refs (drop i l) ≡ tallied (counted refs (getD l i 0)) (drop (i + 1) l)
+pub tallied-append : (refs l m : List ℕ) → tallied refs (l ++ m) ≡ tallied (tallied refs l) m
 unfolding tallied
-tallied-next refs l i m = rw (drop-next l i m) refl
+tallied-append refs [] m = refl
+tallied-append refs (x ∷ l) m = tallied-append (counted refs x) l m
 
-pub dangling-next : (n : ℕ) (l : List ℕ) (i : ℕ) → i < length l → dangling n (drop i l) ≡ dangling n (getD l i 0 ∷ []) + dangling n (drop (i + 1) l)
+pub dangling-append : (n : ℕ) (l m : List ℕ) → dangling n (l ++ m) ≡ dangling n l + dangling n m
 unfolding dangling
-dangling-next n l i m = rw (drop-next l i m) (omega arith)
+dangling-append n [] m = omega arith
+dangling-append n (x ∷ l) m = omega (arith, dangling-append n l m)
+
+pub tallied-next : (refs l : List ℕ) (i : ℕ) → i < length l → tallied refs (take (i + 1) l) ≡ counted (tallied refs (take i l)) (getD l i 0)
+unfolding tallied
+tallied-next refs l i m = rw (add-one, take-suc l i 0, tallied-append) refl
+
+pub dangling-next : (n : ℕ) (l : List ℕ) (i : ℕ) → i < length l → dangling n (take (i + 1) l) ≡ dangling n (take i l) + dangling n (getD l i 0 ∷ [])
+dangling-next n l i m = rw (add-one, take-suc l i 0, dangling-append) refl
+
+-- empty references add nothing
+pub tallied-zeros : (refs l : List ℕ) → all (eqb 0) l ≡ true → tallied refs l ≡ refs
+unfolding tallied all counted
+tallied-zeros refs [] z = refl
+tallied-zeros refs (zero ∷ l) z = tallied-zeros refs l z
+tallied-zeros refs (suc x ∷ l) z = absurd (omega (arith, eqb-true 0 (suc x) (and-left (eqb 0 (suc x)) (all (eqb 0) l) z)))
 
 -- an entry that names no cell, an empty one, and one that names a cell
 pub dangling-over : (n x : ℕ) → n < x → dangling n (x ∷ []) ≡ 1

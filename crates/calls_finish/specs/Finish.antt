@@ -1,0 +1,41 @@
+-- What the steps of FINISH ask for and leave.
+-- Assumes nothing: these are definitions.
+use Prim.Native.Nat.{ℕ, _-_, _≤_}
+use mathlib.Core.List.{List, [], _∷_, _++_}
+use mathlib.Core.Path.{_≡_}
+use lib.ListN.{length, getD, set, drop}
+use Rattle.rules.specs.Heap.{Heap}
+use Rattle.laws.specs.Release.Serve.{Settled}
+use Rattle.release.specs.Release.{begun}
+
+-- a queue that is not empty, with nothing but 0 behind its entries
+pub record Waits (queue control : List ℕ) : Type 0 where
+  pub some : 1 ≤ getD control 0 0
+  pub within : getD control 0 0 ≤ length queue
+  pub rest : (i : ℕ) → getD control 0 0 ≤ i → getD queue i 0 ≡ 0
+  pub control-size : length control ≡ 2
+
+-- the same queue without its head, and its length
+pub record Popped (q t q′ t′ : List ℕ) : Type 0 where
+  pub queue : q′ ≡ drop 1 q ++ (0 ∷ [])
+  pub control : t′ ≡ set t 0 (getD t 0 0 - 1)
+
+-- the queue's head names a cell, and a root is running
+pub record Leaves (flags roots queue control : List ℕ) : Type 0 where
+  pub waits : Waits queue control
+  pub head : 1 ≤ getD queue 0 0
+  pub head-cell : getD queue 0 0 ≤ length flags
+  pub runs : 1 ≤ getD control 1 0
+  pub running-root : getD control 1 0 ≤ length roots
+
+-- the four tables are those of v
+pub record Left (v : Heap) (f r q t : List ℕ) : Type 0 where
+  pub flags : f ≡ v .flags
+  pub roots : r ≡ v .roots
+  pub queue : q ≡ v .queue
+  pub control : t ≡ v .control
+
+-- two references are counted and stand nowhere
+pub record BothReleasable (kind flags count slots queue control : List ℕ) (first second : ℕ) : Type 0 where
+  pub outside : List ℕ
+  pub settled : Settled (begun kind flags count slots queue control) (first ∷ second ∷ outside)

@@ -1,0 +1,6 @@
+pub mod Due
+pub mod Step
+pub mod Run
+pub mod Serving
+pub mod Released
+pub mod Writing

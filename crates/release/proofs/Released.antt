@@ -1,0 +1,81 @@
+-- A full take-off in the code follows `release` of the rules: one `decref`, then `drain`.
+-- Assumes nothing.
+use mathlib.Core.Path.{_≡_, refl, sym, ap, _∙_, subst, subst⁻¹}
+use mathlib.Core.List.{List, [], _∷_, _++_, append-nil}
+use Prim.Native.Nat.{ℕ}
+use native.Mathlib.Omega.{arith}
+use lib.ListN.{length, take}
+use Rattle.rules.specs.Heap.{tables}
+use Rattle.rules.specs.Release.{Work, start, decref, drain, release}
+use Rattle.laws.specs.Sound.But.{Fit}
+use Rattle.laws.specs.Release.Balance.{Draining}
+use Rattle.laws.specs.Release.Decref.{beside-balanced}
+use Rattle.laws.specs.Release.Advance.{Frame, decref-frame}
+use Rattle.laws.specs.Release.Onto.{onto, decref-onto}
+use Rattle.laws.specs.Release.Beside.{beside, drain-beside}
+use Rattle.laws.specs.Release.Serve.{release-due, decref-draining, drain-empty}
+use Rattle.release.specs.Release.{begun, Releasable, Holds}
+use Rattle.release.specs.Steps.{working, Due, Lowered, Drainable}
+
+-- the tables' lengths
+pub fit-of : (k f n s q t : List ℕ) (r : ℕ) → Releasable k f n s q t r → Fit k f n q t
+unfolding start
+fit-of k f n s q t r d = d .settled .draining .balanced .fit
+
+module _ (k f n s q t : List ℕ) (r : ℕ) where
+  -- the reference is due, and the work list is empty
+  pub first-due : (w : List ℕ) → length w ≡ 1024 → Releasable k f n s q t r → Due k f n q t w 0 (r ∷ [])
+  unfolding start
+  first-due w size d = record {
+    serving = [];
+    done = [];
+    pending = [];
+    held = s ++ d .outside;
+    room = size;
+    listed = refl;
+    balanced = beside-balanced _ _ _ _ [] [] [] [] (release-due _ r (d .outside) (d .settled .draining));
+  }
+
+  module _ (n′ q′ t′ w w′ : List ℕ) (x : ℕ) (e : Lowered (decref (working k f n [] q t []) r) n′ q′ t′ w 0 w′ x) where
+    -- the cells that the first step queued
+    joined : List ℕ
+    joined = decref (working k f n [] q t []) r .queued
+
+    -- the rules' state after the first step is the code's
+    first-is : decref (working k f n s q t []) r ≡ beside [] [] joined (working k f n′ s q′ t′ (take x w′))
+    unfolding onto beside joined
+    first-is =
+        let v : Work = decref (working k f n [] q t []) r in
+        let fr : Frame (working k f n [] q t []) v = decref-frame (working k f n [] q t []) r in
+        decref-onto s [] [] [] [] (working k f n [] q t []) r
+        ∙ (λ i. record {
+          heap = tables (fr .kind i) (fr .flags i) (sym (e .count) i) s [] (sym (e .queue) i) (sym (e .control) i);
+          pending = sym (e .listed) i;
+          freed = fr .freed i;
+          queued = sym (append-nil (v .queued)) i;
+        })
+
+    release-is : release (begun k f n s q t) r ≡ beside [] [] joined (drain (length k) (working k f n′ s q′ t′ (take x w′)))
+    unfolding release start
+    release-is = ap (drain (length k)) first-is ∙ drain-beside [] [] joined (length k) (working k f n′ s q′ t′ (take x w′))
+
+    pub then-drain : (k′ f′ n″ s′ q″ t″ : List ℕ) (d : ℕ) → Holds (drain (length k) (working k f n′ s q′ t′ (take x w′))) k′ f′ n″ s′ q″ t″ d
+        → Holds (release (begun k f n s q t) r) k′ f′ n″ s′ q″ t″ d
+    unfolding beside onto
+    then-drain k′ f′ n″ s′ q″ t″ d h =
+        subst⁻¹ (λ (v : Work). Holds v k′ f′ n″ s′ q″ t″ d) release-is
+        (record { kind = h .kind; flags = h .flags; count = h .count; slots = h .slots; queue = h .queue; control = h .control; freed = h .freed; few = h .few })
+
+    -- nothing joined the work list
+    pub at-once : x ≡ 0 → Holds (release (begun k f n s q t) r) k f n′ s q′ t′ 0
+    at-once z =
+        then-drain k f n′ s q′ t′ 0
+        (subst⁻¹ (λ (v : Work). Holds v k f n′ s q′ t′ 0) (drain-empty (length k) (working k f n′ s q′ t′ (take x w′)) (ap (λ (i : ℕ). take i w′) z))
+        (record { kind = refl; flags = refl; count = refl; slots = refl; queue = refl; control = refl; freed = refl; few = omega arith }))
+
+    pub drainable : Releasable k f n s q t r → length w′ ≡ 1024 → Drainable k f n′ s q′ t′ w′ x
+    unfolding beside onto start
+    drainable d size =
+        let a : Draining (beside [] [] joined (working k f n′ s q′ t′ (take x w′))) [] (d .outside) =
+        subst (λ (v : Work). Draining v [] (d .outside)) first-is (decref-draining _ r (d .outside) (d .settled .draining)) in
+        record { outside = d .outside; room = size; bound = e .bound; draining = record { slots = a .slots; balanced = beside-balanced _ _ _ _ s [] [] [] (a .balanced) } }

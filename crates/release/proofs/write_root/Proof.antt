@@ -1,0 +1,71 @@
+-- `release::write_root` meets its contract. Assumes nothing.
+use Rattle.rules.specs.Heap.{tables}
+use Rattle.release.proofs.Writing.{raisable, root-ready, root-done}
+use borrow.Author.Needs.{needs}
+use Rattle.release.proofs.write_root.Statement.{statement}
+use Rattle.release.proofs.write_root.Tie as tie
+
+index-requires : tie.Need-index-requires
+index-requires c κs = search needs
+
+mul-old-root : tie.Need-mul-old-root
+mul-old-root c = search needs
+
+slice-read-old-root : tie.Need-slice-read-old-root
+slice-read-old-root c = search needs
+
+take-off-requires : tie.Need-take-off-requires
+take-off-requires c κs = root-ready _ _ _ _ _ _ _ _ _ (c .before .before .before .before .before .before .before .before .before .before .before .before .before .before .before .before .before .before .before .pre) _ (c .before .before .before .before .before .before .before .before .before .before .before .index .ensures) _ (c .before .before .before .before .before .before .before .before .incref .ensures)
+
+incref-requires : tie.Need-incref-requires
+incref-requires c κs = raisable (tables _ _ _ _ _ _ _) _ (c .before .before .before .before .before .before .before .before .before .before .pre .sound) (c .before .before .before .before .before .before .before .before .before .before .pre .used)
+
+mul-roots : tie.Need-mul-roots
+mul-roots c = search needs
+
+slice-write-roots : tie.Need-slice-write-roots
+slice-write-roots c = search needs
+
+same-length : tie.Need-same-length
+same-length c = search needs
+
+same-length-2 : tie.Need-same-length-2
+same-length-2 c = search needs
+
+same-length-3 : tie.Need-same-length-3
+same-length-3 c = search needs
+
+same-length-4 : tie.Need-same-length-4
+same-length-4 c = search needs
+
+same-length-5 : tie.Need-same-length-5
+same-length-5 c = search needs
+
+same-length-6 : tie.Need-same-length-6
+same-length-6 c = search needs
+
+same-length-7 : tie.Need-same-length-7
+same-length-7 c = search needs
+
+returns : tie.Need-returns
+returns c = root-done _ _ _ _ _ _ _ _ _ (c .before .before .before .before .before .before .before .before .before .before .before .before .before .before .before .before .before .before .before .before .before .before .before .before .before .before .before .before .before .before .before .before .pre) _ (c .before .before .before .before .before .before .before .before .before .before .before .before .before .before .before .before .before .before .before .before .before .before .before .before .index .ensures) _ (c .before .before .before .before .before .before .before .before .before .before .before .before .before .before .before .before .before .before .before .before .before .incref .ensures) _ _ _ _ _ _ _ (c .before .before .before .before .before .before .before .before .before .before .before .before .take-off .ensures)
+
+pub write-root-spec : {M : Type 1} → statement M
+write-root-spec =
+    tie.close
+    (tie.spec
+    index-requires
+    mul-old-root
+    slice-read-old-root
+    incref-requires
+    mul-roots
+    slice-write-roots
+    take-off-requires
+    same-length
+    same-length-2
+    same-length-3
+    same-length-4
+    same-length-5
+    same-length-6
+    same-length-7
+    returns)

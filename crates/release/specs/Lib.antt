@@ -1,0 +1,5 @@
+pub mod Release
+pub mod Steps
+pub mod Write
+pub mod Whole
+pub mod Written

@@ -1,0 +1,57 @@
+-- What the steps of a take-off ask for and leave. The work list stands in an array: its entries before `tail` have joined it.
+-- Assumes nothing: these are definitions.
+use Prim.Native.Nat.{ℕ, _+_, _*_, _-_, _≤_, _<_}
+use mathlib.Core.List.{List, [], _∷_, _++_}
+use mathlib.Core.Path.{_≡_}
+use lib.ListN.{length, take, set, getD}
+use Rattle.rules.specs.Heap.{tables}
+use Rattle.rules.specs.Release.{Work}
+use Rattle.laws.specs.Release.Balance.{Balanced, Draining}
+use Rattle.laws.specs.Release.Serve.{emptied}
+
+-- the tables with a work list, and nothing freed or queued yet
+abbrev pub working : (kind flags count slots queue control pending : List ℕ) → Work
+working kind flags count slots queue control pending = record { heap = tables kind flags count slots [] queue control; pending = pending; freed = []; queued = [] }
+
+-- The references `due` are to come off. Of the work list's cells `done` are freed, `serving` is being served and `pending` wait.
+pub record Due (kind flags count queue control work : List ℕ) (tail : ℕ) (due : List ℕ) : Type 0 where
+  pub serving : List ℕ
+  pub done : List ℕ
+  pub pending : List ℕ
+  pub held : List ℕ
+  pub room : length work ≡ 1024
+  pub listed : tail ≡ length done + length (serving ++ pending)
+  pub balanced : Balanced (working kind flags count [] queue control pending) serving done (due ++ held)
+
+-- the same for r alone, which is the last reference to its cell
+pub record LastDue (kind flags count queue control work : List ℕ) (tail r : ℕ) : Type 0 where
+  pub due : Due kind flags count queue control work tail (r ∷ [])
+  pub some : 1 ≤ r
+  pub last : getD count (r - 1) 0 ≡ 1
+
+-- The tables c q t and the work list's new entries are those of v: the list had `tail` entries of `before`, and has `next` of `after`.
+pub record Lowered (v : Work) (c q t before : List ℕ) (tail : ℕ) (after : List ℕ) (next : ℕ) : Type 0 where
+  pub count : c ≡ v .heap .count
+  pub queue : q ≡ v .heap .queue
+  pub control : t ≡ v .heap .control
+  pub listed : take next after ≡ take tail before ++ v .pending
+  pub bound : next ≤ 1024
+
+-- cell c stands in the tables
+pub record Stands (k f s : List ℕ) (c : ℕ) : Type 0 where
+  pub kind : c < length k
+  pub flags : c < length f
+  pub slots : 8 * c + 8 ≤ length s
+
+-- cell c is all zeros in k′ f′ s′, which are k f s otherwise
+pub record Wiped (k f s : List ℕ) (c : ℕ) (k′ f′ s′ : List ℕ) : Type 0 where
+  pub kind : k′ ≡ set k c 0
+  pub flags : f′ ≡ set f c 0
+  pub slots : s′ ≡ emptied s c
+
+-- the work list's entries before `tail` wait, and everything else is in balance
+pub record Drainable (kind flags count slots queue control work : List ℕ) (tail : ℕ) : Type 0 where
+  pub outside : List ℕ
+  pub room : length work ≡ 1024
+  pub bound : tail ≤ 1024
+  pub draining : Draining (working kind flags count slots queue control (take tail work)) [] outside

@@ -1,0 +1,36 @@
+-- What a write of a reference asks for and leaves.
+-- Assumes nothing: these are definitions.
+use Prim.Native.Nat.{ℕ, suc, _≤_, _<_}
+use mathlib.Core.List.{List, []}
+use mathlib.Core.Path.{_≡_}
+use lib.ListN.{length, getD}
+use Rattle.rules.specs.declared.Answer.{Answer}
+use Rattle.rules.specs.Heap.{tables}
+use Rattle.rules.specs.Release.{Work}
+use Rattle.rules.specs.Calls.{answers}
+use Rattle.laws.specs.Sound.But.{SoundBut}
+
+-- a root's write: the heap is sound, the root's number is below 64, and r names a used cell or is empty
+pub record Writable (kind flags count slots roots queue control : List ℕ) (to r : ℕ) : Type 0 where
+  pub sound : SoundBut (tables kind flags count slots roots queue control) []
+  pub small : to < 64
+  pub used : (c : ℕ) → r ≡ suc c → 1 ≤ getD kind c 0
+
+-- a slot's write: the same with some roots, which it doesn't read; the cell is an object and the slot's number below 8
+pub record SlotWritable (kind flags count slots queue control : List ℕ) (cell slot r : ℕ) : Type 0 where
+  pub roots : List ℕ
+  pub sound : SoundBut (tables kind flags count slots roots queue control) []
+  pub object : getD kind cell 0 ≡ 1
+  pub small : slot < 8
+  pub used : (c : ℕ) → r ≡ suc c → 1 ≤ getD kind c 0
+
+-- The tables are those of v, and the answer is that of a call that is done: how many cells it freed and queued.
+pub record Wrote (v : Work) (k f n s r q t : List ℕ) (a : Answer) : Type 0 where
+  pub kind : k ≡ v .heap .kind
+  pub flags : f ≡ v .heap .flags
+  pub count : n ≡ v .heap .count
+  pub slots : s ≡ v .heap .slots
+  pub roots : r ≡ v .heap .roots
+  pub queue : q ≡ v .heap .queue
+  pub control : t ≡ v .heap .control
+  pub answer : a ≡ answers 0 (length (v .freed)) (length (v .queued)) 0

@@ -1,0 +1,9 @@
+-- What several proofs of the crate cite.
+pub mod Misses
+pub mod Tallying
+pub mod Queueing
+pub mod Slots
+pub mod Cells
+pub mod Order
+pub mod Whole
+pub mod Scratch

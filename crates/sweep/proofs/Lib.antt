@@ -1,0 +1,5 @@
+pub mod Joins
+pub mod Lowers
+pub mod Wipes
+pub mod Rescues
+pub mod Whole

@@ -1,0 +1,86 @@
+-- `sweep::mark_and_queue` meets its contract. Assumes nothing.
+use native.Mathlib.Omega.{arith}
+use mathlib.Core.Path.{sym, _∙_}
+use lib.ListN.{getD}
+use lib.Seq.{length-take-le}
+use Rattle.sweep.proofs.Whole.{first-asks, first-marks, queue-asks, queue-end, second-asks, second-kept}
+use borrow.Author.Needs.{needs}
+use Rattle.sweep.proofs.mark_and_queue.Statement.{statement}
+use Rattle.sweep.proofs.mark_and_queue.Tie as tie
+
+slice-read-old : tie.Need-slice-read-old
+slice-read-old c = omega (arith, c .before .before .before .before .before .before .before .before .before .pre .0 .fit .control-size)
+
+cast-old : tie.Need-cast-old
+cast-old c = search needs
+
+slice-reshare-prefix-mark-all : tie.Need-slice-reshare-prefix-mark-all
+slice-reshare-prefix-mark-all c = omega (arith, c .before .before .before .before .before .before .before .before .before .before .pre .0 .fit .queue-size, c .before .before .before .before .before .before .before .before .before .before .pre .0 .queue .within)
+
+slice-aggregate-mark-all : tie.Need-slice-aggregate-mark-all
+slice-aggregate-mark-all c = sym (length-take-le (getD (c .before .before .before .before .before .before .before .before .before .before .before .args .control .now) 0 0) (c .before .before .before .before .before .before .before .before .before .before .before .args .queue .now) (omega (arith, c .before .before .before .before .before .before .before .before .before .before .before .pre .0 .fit .queue-size, c .before .before .before .before .before .before .before .before .before .before .before .pre .0 .queue .within)))
+
+mark-all-requires : tie.Need-mark-all-requires
+mark-all-requires c κs = first-asks (c .before .before .before .before .before .before .before .before .before .before .before .pre .0) (c .before .before .before .before .before .before .before .before .before .before .before .args .marks .now) (c .before .before .before .before .before .before .before .before .before .before .before .pre .1)
+
+queue-unmarked-requires : tie.Need-queue-unmarked-requires
+queue-unmarked-requires c κs = queue-asks (c .before .before .before .before .before .before .before .before .before .before .before .before .before .before .before .before .before .before .pre .0) (c .before .before .before .before .before .before .mark-all .last .1 .0) (first-marks (c .before .before .before .before .before .before .before .before .before .before .before .before .before .before .before .before .before .before .pre .0) (c .before .before .before .before .before .before .before .before .before .before .before .before .before .before .before .before .before .before .args .marks .now) (c .before .before .before .before .before .before .mark-all .last .1 .0) (c .before .before .before .before .before .before .before .before .before .before .before .before .before .before .before .before .before .before .pre .1) (c .before .before .before .before .before .before .mark-all .ensures))
+
+cast-all : tie.Need-cast-all
+cast-all c = search needs
+
+add-all : tie.Need-add-all
+add-all c = search needs
+
+mul-mark-from : tie.Need-mul-mark-from
+mul-mark-from c = search needs
+
+sub-mark-from : tie.Need-sub-mark-from
+sub-mark-from c = search needs
+
+part-mark-from-start : tie.Need-part-mark-from-start
+part-mark-from-start c = search needs
+
+part-mark-from-end : tie.Need-part-mark-from-end
+part-mark-from-end c = omega (arith, queue-end (c .before .before .before .before .before .before .before .before .before .before .before .before .before .before .before .before .before .before .before .before .before .before .before .before .before .before .before .pre .0) (first-marks (c .before .before .before .before .before .before .before .before .before .before .before .before .before .before .before .before .before .before .before .before .before .before .before .before .before .before .before .pre .0) (c .before .before .before .before .before .before .before .before .before .before .before .before .before .before .before .before .before .before .before .before .before .before .before .before .before .before .before .args .marks .now) (c .before .before .before .before .before .before .before .before .before .before .before .before .before .before .before .mark-all .last .1 .0) (c .before .before .before .before .before .before .before .before .before .before .before .before .before .before .before .before .before .before .before .before .before .before .before .before .before .before .before .pre .1) (c .before .before .before .before .before .before .before .before .before .before .before .before .before .before .before .mark-all .ensures)) (c .before .before .before .before .before .before .before .before .queue-unmarked .ensures))
+
+mark-from-requires : tie.Need-mark-from-requires
+mark-from-requires c κs = second-asks (c .before .before .before .before .before .before .before .before .before .before .before .before .before .before .before .before .before .before .before .before .before .before .before .before .before .before .before .before .pre .0) (first-marks (c .before .before .before .before .before .before .before .before .before .before .before .before .before .before .before .before .before .before .before .before .before .before .before .before .before .before .before .before .pre .0) (c .before .before .before .before .before .before .before .before .before .before .before .before .before .before .before .before .before .before .before .before .before .before .before .before .before .before .before .before .args .marks .now) (c .before .before .before .before .before .before .before .before .before .before .before .before .before .before .before .before .mark-all .last .1 .0) (c .before .before .before .before .before .before .before .before .before .before .before .before .before .before .before .before .before .before .before .before .before .before .before .before .before .before .before .before .pre .1) (c .before .before .before .before .before .before .before .before .before .before .before .before .before .before .before .before .mark-all .ensures)) (c .before .before .before .before .before .before .before .before .before .queue-unmarked .ensures)
+
+same-length : tie.Need-same-length
+same-length c = c .before .before .before .before .before .before .before .before .before .before .before .before .queue-unmarked .kept .1 .1 .0
+
+same-length-2 : tie.Need-same-length-2
+same-length-2 c = c .before .before .before .before .before .before .before .before .before .before .before .before .queue-unmarked .kept .1 .1 .1 .0
+
+same-length-3 : tie.Need-same-length-3
+same-length-3 c = c .before .before .before .before .before .before .before .before .before .before .before .before .queue-unmarked .kept .1 .1 .1 .1 .0
+
+same-length-4 : tie.Need-same-length-4
+same-length-4 c = c .before .before .mark-from .kept .1 .0 ∙ c .before .before .before .before .before .before .before .before .before .before .before .before .before .before .before .before .before .before .before .mark-all .kept .1 .0
+
+returns : tie.Need-returns
+returns c = second-kept (c .before .before .before .before .before .before .before .before .before .before .before .before .before .before .before .before .before .before .before .before .before .before .before .before .before .before .before .before .before .before .before .pre .0) (first-marks (c .before .before .before .before .before .before .before .before .before .before .before .before .before .before .before .before .before .before .before .before .before .before .before .before .before .before .before .before .before .before .before .pre .0) (c .before .before .before .before .before .before .before .before .before .before .before .before .before .before .before .before .before .before .before .before .before .before .before .before .before .before .before .before .before .before .before .args .marks .now) (c .before .before .before .before .before .before .before .before .before .before .before .before .before .before .before .before .before .before .before .mark-all .last .1 .0) (c .before .before .before .before .before .before .before .before .before .before .before .before .before .before .before .before .before .before .before .before .before .before .before .before .before .before .before .before .before .before .before .pre .1) (c .before .before .before .before .before .before .before .before .before .before .before .before .before .before .before .before .before .before .before .mark-all .ensures)) (c .before .before .before .before .before .before .before .before .before .before .before .before .queue-unmarked .ensures) (c .before .before .mark-from .last .1 .0) (c .before .before .mark-from .ensures)
+
+pub mark-and-queue-spec : {M : Type 1} → statement M
+mark-and-queue-spec =
+    tie.close
+    (tie.spec
+    slice-read-old
+    cast-old
+    slice-reshare-prefix-mark-all
+    slice-aggregate-mark-all
+    mark-all-requires
+    queue-unmarked-requires
+    cast-all
+    add-all
+    mul-mark-from
+    sub-mark-from
+    part-mark-from-start
+    part-mark-from-end
+    mark-from-requires
+    same-length
+    same-length-2
+    same-length-3
+    same-length-4
+    returns)

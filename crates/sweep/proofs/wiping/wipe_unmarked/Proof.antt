@@ -1,0 +1,80 @@
+-- `sweep::wiping::wipe_unmarked` meets its contract: the garbage below `c` is all zeros. Assumes nothing.
+use Prim.Native.Nat.{_-_, _≤_}
+use native.Mathlib.Omega.{arith}
+use mathlib.Core.Path.{_≡_, refl, sym, _∙_}
+use lib.ListN.{length}
+use Rattle.rules.specs.Lists.{select}
+use Rattle.sweep.specs.Phases.{isGarbage, Freed}
+use Rattle.sweep.proofs.Wipes.{freed-start, freed-length, freed-same, freed-next, freed-small}
+use Rattle.sweep.proofs.wiping.wipe_unmarked.Statement.{statement}
+use Rattle.sweep.proofs.wiping.wipe_unmarked.Tie as tie
+
+abbrev Inv-loop : tie.InvT-loop
+Inv-loop kind₀ flags₀ count₀ slots₀ marks freed₀ c₀ c-end kind flags count slots freed c = (c ≤ length kind₀) × Freed kind₀ flags₀ count₀ slots₀ (select (isGarbage kind₀ marks) c) kind flags count slots freed × (length kind ≡ length kind₀) × (length flags ≡ length flags₀) × (length count ≡ length count₀) × (length slots ≡ length slots₀)
+
+abbrev μ-loop : tie.MeasureT-loop
+μ-loop kind₀ flags₀ count₀ slots₀ marks freed₀ c₀ c-end kind flags count slots freed c = length kind₀ - c
+
+loop-holds : tie.Need-loop-holds Inv-loop μ-loop
+loop-holds c = (omega arith, freed-start (isGarbage (c .before .before .before .before .before .args .kind .now) (c .before .before .before .before .before .args .marks .now)), refl, refl, refl, refl)
+
+wipe-cell-requires : tie.Need-wipe-cell-requires Inv-loop μ-loop
+wipe-cell-requires c κs =
+    let len = freed-length (c .before .before .before .before .before .before .before .before .before .before .before .args .marks .now) (c .before .before .before .before .before .loop .c) (omega arith) (c .before .before .before .before .before .before .before .before .before .before .before .pre .0) (c .before .before .before .before .before .loop .inv .1) in
+    (freed-same (c .before .before .before .before .before .before .before .before .before .before .before .args .marks .now) (c .before .before .before .before .before .loop .c) (omega arith) (c .before .before .before .before .before .before .before .before .before .before .before .pre .0) (c .before .before .before .before .before .loop .inv .1), (omega arith, c .before .before .before .before .before .before .before .before .before .before .before .pre .1 .0 ∙ sym len))
+
+add-freed : tie.Need-add-freed Inv-loop μ-loop
+add-freed c = omega (arith, freed-small (isGarbage (c .before .before .before .before .before .before .before .before .before .before .before .before .before .before .before .before .before .before .before .before .args .kind .now) (c .before .before .before .before .before .before .before .before .before .before .before .before .before .before .before .before .before .before .before .before .args .marks .now)) (c .before .before .before .before .before .before .before .before .before .before .before .before .before .before .loop .c) (isGarbage (c .before .before .before .before .before .before .before .before .before .before .before .before .before .before .loop .kind) (c .before .before .before .before .before .before .before .before .before .before .before .before .before .before .before .before .before .before .before .before .args .marks .now) (c .before .before .before .before .before .before .before .before .before .before .before .before .before .before .loop .c)) (c .before .before .before .before .before .before .before .before .before .before .before .before .before .before .loop .inv .1) (c .before .before .before .before .before .before .before .before .wipe-cell .ensures))
+
+add-c : tie.Need-add-c Inv-loop μ-loop
+add-c c = omega arith
+
+loop-less : tie.Need-loop-less Inv-loop μ-loop
+loop-less c = omega arith
+
+loop-again : tie.Need-loop-again Inv-loop μ-loop
+loop-again c =
+    let l = c .before .before .before .before .before .before .before .before .before .before .before .before .before .before .loop in
+    let s = c .before .before .before .before .before .before .before .before .wipe-cell in (
+      omega arith,
+      freed-next (c .before .before .before .before .before .before .before .before .before .before .before .before .before .before .before .before .before .before .before .before .args .marks .now) (l .c) (omega arith) (c .before .before .before .before .before .before .before .before .before .before .before .before .before .before .before .before .before .before .before .before .pre .0) (l .inv .1) (s .ensures),
+      s .kept .0 ∙ l .inv .2,
+      s .kept .1 .0 ∙ l .inv .3,
+      s .kept .1 .1 .0 ∙ l .inv .4,
+      s .kept .1 .1 .1 .0 ∙ l .inv .5,
+    )
+
+same-length : tie.Need-same-length Inv-loop μ-loop
+same-length c = c .before .loop .inv .2
+
+same-length-2 : tie.Need-same-length-2 Inv-loop μ-loop
+same-length-2 c = c .before .loop .inv .3
+
+same-length-3 : tie.Need-same-length-3 Inv-loop μ-loop
+same-length-3 c = c .before .loop .inv .4
+
+same-length-4 : tie.Need-same-length-4 Inv-loop μ-loop
+same-length-4 c = c .before .loop .inv .5
+
+returns : tie.Need-returns Inv-loop μ-loop
+returns c =
+    let e : c .before .loop .c ≡ length (c .before .before .before .before .before .before .before .args .kind .now) = omega arith in
+    rw e at (c .before .loop .inv .1)
+
+pub wipe-unmarked-spec : {M : Type 1} → statement M
+wipe-unmarked-spec =
+    tie.close
+    (tie.spec
+    Inv-loop
+    μ-loop
+    loop-holds
+    wipe-cell-requires
+    add-freed
+    add-c
+    loop-less
+    loop-again
+    same-length
+    same-length-2
+    same-length-3
+    same-length-4
+    returns)

@@ -1,0 +1,102 @@
+-- What each part of COLLECT does to the tables that it is lent: an equation with the rules' definition, whatever stands in the other tables.
+-- Assumes nothing: these are definitions.
+use Prim.Native.Nat.{ℕ, _+_, _*_, _≤_, _<_}
+use mathlib.Core.List.{List, [], _∷_}
+use mathlib.Core.Bool.{Bool, not, _&&_, cond}
+use mathlib.Core.Path.{_≡_}
+use lib.Dec.{eqb}
+use lib.ListN.{length, getD}
+use Rattle.rules.specs.declared.Answer.{Answer}
+use Rattle.rules.specs.Lists.{occ, select}
+use Rattle.rules.specs.Heap.{Heap, tables}
+use Rattle.rules.specs.Collect.{enqueueAll, unreachedFinalizable, keptMarks, lowerAll, unlinkAll, wipeAll, rescueAll, rescued, collect}
+use Rattle.rules.specs.Calls.{answers}
+use Rattle.laws.specs.Sound.But.{Fit}
+
+-- ---- which cells: an unmarked object with flags 1, an unmarked used cell, a marked cell with flags 3
+
+abbrev pub isDue : List ℕ → List ℕ → List ℕ → ℕ → Bool
+isDue kind flags marks c = (eqb (getD kind c 0) 1 && eqb (getD flags c 0) 1) && eqb (getD marks c 0) 0
+
+abbrev pub isGarbage : List ℕ → List ℕ → ℕ → Bool
+isGarbage kind marks c = not (eqb (getD kind c 0) 0) && eqb (getD marks c 0) 0
+
+abbrev pub isRescued : List ℕ → List ℕ → ℕ → Bool
+isRescued flags marks c = eqb (getD flags c 0) 3 && eqb (getD marks c 0) 1
+
+-- all of them, in order of cell number
+abbrev pub dueOf : List ℕ → List ℕ → List ℕ → List ℕ
+dueOf kind flags marks = select (isDue kind flags marks) (length kind)
+
+abbrev pub garbageOf : List ℕ → List ℕ → List ℕ
+garbageOf kind marks = select (isGarbage kind marks) (length kind)
+
+abbrev pub rescuedOf : List ℕ → List ℕ → List ℕ
+rescuedOf flags marks = select (isRescued flags marks) (length flags)
+
+-- the cell, if it passes
+abbrev pub only : Bool → ℕ → List ℕ
+only b c = cond b (c ∷ []) []
+
+-- ---- queueing
+
+-- the tables fit, the queue has room for the cells l, and their counts may rise
+pub record Room (kind flags count queue control marks l : List ℕ) : Type 0 where
+  pub fit : Fit kind flags count queue control
+  pub marks-size : length marks ≡ length kind
+  pub room : getD control 0 0 + length l ≤ length kind
+  pub small : (c : ℕ) → getD count c 0 + occ c l < 65536
+
+-- the cells l joined the queue, and were counted
+pub record Queued (kind flags count queue control l count′ queue′ control′ : List ℕ) (r : ℕ) : Type 0 where
+  pub heap : (s t : List ℕ) → tables kind flags count′ s t queue′ control′ ≡ enqueueAll (tables kind flags count s t queue control) l
+  pub many : r ≡ length l
+
+-- ---- sweeping: the first round, the second, and the rescued
+
+-- references l came off their targets' counts
+pub record TakenOff (count l count′ : List ℕ) : Type 0 where
+  pub heap : (k f s t q w : List ℕ) → tables k f count′ s t q w ≡ lowerAll (tables k f count s t q w) l
+
+-- the slots of the cells l came off their targets' counts
+pub record Unlinked (slots count l count′ : List ℕ) : Type 0 where
+  pub heap : (k f t q w : List ℕ) → tables k f count′ slots t q w ≡ unlinkAll (tables k f count slots t q w) l
+
+-- tables for the same number of cells
+pub record Same (kind flags count slots : List ℕ) : Type 0 where
+  pub flags-size : length flags ≡ length kind
+  pub count-size : length count ≡ length kind
+  pub slots-size : length slots ≡ 8 * length kind
+
+-- the cells l became all zeros, and were counted
+pub record Freed (kind flags count slots l kind′ flags′ count′ slots′ : List ℕ) (r : ℕ) : Type 0 where
+  pub heap : (t q w : List ℕ) → tables kind′ flags′ count′ slots′ t q w ≡ wipeAll (tables kind flags count slots t q w) l
+  pub many : r ≡ length l
+
+-- the cells l got flags 1
+pub record Restored (flags l flags′ : List ℕ) : Type 0 where
+  pub heap : (k n s t q w : List ℕ) → tables k flags′ n s t q w ≡ rescueAll (tables k flags n s t q w) l
+
+-- ---- the parts together
+
+-- both markings, and the queueing between them, from marks that are all unmarked
+pub record MarkedQueued (h after : Heap) (marks : List ℕ) (r : ℕ) : Type 0 where
+  pub heap : after ≡ enqueueAll h (unreachedFinalizable h)
+  pub marked : marks ≡ keptMarks h
+  pub many : r ≡ length (unreachedFinalizable h)
+
+-- both rounds, over the cells l
+abbrev pub rounds : Heap → List ℕ → Heap
+rounds h l = wipeAll (unlinkAll h l) l
+
+-- both rounds over the garbage, which was counted, and then the rescued
+pub record Swept (kind flags count slots marks kind′ flags′ count′ slots′ : List ℕ) (r : ℕ) : Type 0 where
+  pub heap : (t q w : List ℕ)
+      → tables kind′ flags′ count′ slots′ t q w
+      ≡ rescueAll (rounds (tables kind flags count slots t q w) (garbageOf kind marks)) (rescued (rounds (tables kind flags count slots t q w) (garbageOf kind marks)) marks)
+  pub many : r ≡ length (garbageOf kind marks)
+
+-- every table is as the rules' COLLECT leaves it, and the answer counts what it freed and queued
+pub record Collected (h after : Heap) (answer : Answer) : Type 0 where
+  pub heap : after ≡ collect h .heap
+  pub answered : answer ≡ answers 0 (length (collect h .freed)) (length (collect h .queued)) 0

@@ -1,0 +1,123 @@
+// COLLECT: two markings with a queueing between them, two rounds of sweeping, and the rescued.
+mod cells;
+mod queueing;
+mod rescuing;
+mod unlinking;
+mod wiping;
+
+use crate::queueing::queue_unmarked;
+use crate::rescuing::rescue_marked;
+use crate::unlinking::unlink_unmarked;
+use crate::wiping::wipe_unmarked;
+use marking::mark_all;
+use marking::mark_from;
+use marking::unmarked;
+use rules::Answer;
+use rules::DONE;
+ghost use Prim.Native.Nat.{ℕ, _+_, _*_, _≤_, _<_};
+ghost use mathlib.Core.List.{[], _∷_};
+ghost use mathlib.Core.Path.{_≡_};
+ghost use lib.ListN.{length, replicate};
+ghost use Rattle.rules.specs.Heap.{tables};
+ghost use Rattle.laws.specs.Sound.But.{SoundBut};
+ghost use Rattle.laws.specs.Marking.Marks.{Within};
+ghost use Rattle.sweep.specs.Phases.{Same, MarkedQueued, Swept, Collected};
+
+// Marks what roots and queue reach; what is left and wants its finalizer joins the queue; marks from there. Answers how many joined.
+fn mark_and_queue(
+    kind: &[u16],
+    flags: &[u16],
+    count: &mut [u16],
+    slots: &[u16],
+    roots: &[u16],
+    queue: &mut [u16],
+    control: &mut [u16],
+    marks: &mut [u8],
+) -> u16
+    requires { ⌜ SoundBut (tables (now kind) (now flags) (now count) (now slots) (now roots) (now queue) (now control)) [] ⌝ }
+    requires { ⌜ now marks ≡ replicate (length (now kind)) 0 ⌝ }
+    ensures { λ r. ⌜ MarkedQueued (tables (now (kind .entry)) (now (flags .entry)) (now (count .entry)) (now (slots .entry)) (now (roots .entry)) (now (queue .entry)) (now (control .entry)))
+        (tables (now (kind .entry)) (now (flags .entry)) (now (count .exit)) (now (slots .entry)) (now (roots .entry)) (now (queue .exit)) (now (control .exit)))
+        (now (marks .exit)) r ⌝ }
+{
+    let old = control[0] as usize;
+    mark_all(slots, marks, roots, &queue[..old]);
+    let queued = queue_unmarked(kind, flags, count, queue, control, marks);
+    let all = old + queued as usize;
+    mark_from(slots, marks, &queue[old..all]);
+    queued
+}
+
+// The references of all unmarked cells come off, then all of them become free; marked cells that were finalised are rescued. Answers how many became free.
+fn sweep_unmarked(
+    kind: &mut [u16],
+    flags: &mut [u16],
+    count: &mut [u16],
+    slots: &mut [u16],
+    marks: &[u8],
+) -> u16
+    requires { ⌜ Same (now kind) (now flags) (now count) (now slots) ⌝ }
+    requires { ⌜ (length (now marks) ≡ length (now kind)) × (length (now kind) ≤ 1024) ⌝ }
+    requires { ⌜ Within (length (now kind)) (now slots) ⌝ }
+    ensures { λ r. ⌜ Swept (now (kind .entry)) (now (flags .entry)) (now (count .entry)) (now (slots .entry)) (now (marks .entry))
+        (now (kind .exit)) (now (flags .exit)) (now (count .exit)) (now (slots .exit)) r ⌝ }
+{
+    unlink_unmarked(kind, count, slots, marks);
+    let freed = wipe_unmarked(kind, flags, count, slots, marks);
+    rescue_marked(flags, marks);
+    freed
+}
+
+// COLLECT with marks that are all unmarked.
+fn collect_with(
+    kind: &mut [u16],
+    flags: &mut [u16],
+    count: &mut [u16],
+    slots: &mut [u16],
+    roots: &[u16],
+    queue: &mut [u16],
+    control: &mut [u16],
+    marks: &mut [u8],
+) -> Answer
+    requires { ⌜ SoundBut (tables (now kind) (now flags) (now count) (now slots) (now roots) (now queue) (now control)) [] ⌝ }
+    requires { ⌜ now marks ≡ replicate (length (now kind)) 0 ⌝ }
+    ensures { λ r. ⌜ Collected (tables (now (kind .entry)) (now (flags .entry)) (now (count .entry)) (now (slots .entry)) (now (roots .entry)) (now (queue .entry)) (now (control .entry)))
+        (tables (now (kind .exit)) (now (flags .exit)) (now (count .exit)) (now (slots .exit)) (now (roots .entry)) (now (queue .exit)) (now (control .exit))) r ⌝ }
+{
+    let queued = mark_and_queue(kind, flags, count, slots, roots, queue, control, marks);
+    let freed = sweep_unmarked(kind, flags, count, slots, marks);
+    Answer {
+        refused: DONE,
+        freed: freed,
+        queued: queued,
+        cell: 0,
+    }
+}
+
+// COLLECT, on a sound heap.
+pub fn collect(
+    kind: &mut [u16],
+    flags: &mut [u16],
+    count: &mut [u16],
+    slots: &mut [u16],
+    roots: &[u16],
+    queue: &mut [u16],
+    control: &mut [u16],
+) -> Answer
+    requires { ⌜ SoundBut (tables (now kind) (now flags) (now count) (now slots) (now roots) (now queue) (now control)) [] ⌝ }
+    ensures { λ r. ⌜ Collected (tables (now (kind .entry)) (now (flags .entry)) (now (count .entry)) (now (slots .entry)) (now (roots .entry)) (now (queue .entry)) (now (control .entry)))
+        (tables (now (kind .exit)) (now (flags .exit)) (now (count .exit)) (now (slots .exit)) (now (roots .entry)) (now (queue .exit)) (now (control .exit))) r ⌝ }
+{
+    let n = kind.len();
+    let mut marks = unmarked();
+    collect_with(
+        kind,
+        flags,
+        count,
+        slots,
+        roots,
+        queue,
+        control,
+        &mut marks[..n],
+    )
+}

@@ -1,0 +1,62 @@
+// Unmarked objects with a finalizer to run join the queue.
+use crate::cells::is_due;
+ghost use Prim.Native.Nat.{_+_, _<_};
+ghost use mathlib.Core.Path.{_≡_};
+ghost use lib.ListN.{length, getD, set};
+ghost use Rattle.sweep.specs.Phases.{isDue, dueOf, only, Room, Queued};
+
+// A cell joins the end of the queue.
+fn enqueue(queue: &mut [u16], control: &mut [u16], c: usize)
+    requires { ⌜ c < 65535 ⌝ }
+    requires { ⌜ length (now control) ≡ 2 ⌝ }
+    requires { ⌜ (getD (now control) 0 0 < length (now queue)) × (getD (now control) 0 0 < 65535) ⌝ }
+    ensures { λ _. ⌜ now (queue .exit) ≡ set (now (queue .entry)) (getD (now (control .entry)) 0 0) (c + 1) ⌝ }
+    ensures { λ _. ⌜ now (control .exit) ≡ set (now (control .entry)) 0 (getD (now (control .entry)) 0 0 + 1) ⌝ }
+{
+    let end = control[0];
+    queue[end as usize] = c as u16 + 1;
+    control[0] = end + 1;
+}
+
+// A cell that is due joins the queue, its count rising by 1; answers how many joined, 0 or 1.
+fn queue_cell(
+    kind: &[u16],
+    flags: &[u16],
+    count: &mut [u16],
+    queue: &mut [u16],
+    control: &mut [u16],
+    marks: &[u8],
+    c: usize,
+) -> u16
+    requires { ⌜ c < length (now kind) ⌝ }
+    requires { ⌜ Room (now kind) (now flags) (now count) (now queue) (now control) (now marks) (only (isDue (now kind) (now flags) (now marks) c) c) ⌝ }
+    ensures { λ r. ⌜ Queued (now (kind .entry)) (now (flags .entry)) (now (count .entry)) (now (queue .entry)) (now (control .entry))
+        (only (isDue (now (kind .entry)) (now (flags .entry)) (now (marks .entry)) c) c) (now (count .exit)) (now (queue .exit)) (now (control .exit)) r ⌝ }
+{
+    if !is_due(kind, flags, marks, c) {
+        return 0;
+    }
+    enqueue(queue, control, c);
+    count[c] = count[c] + 1;
+    1
+}
+
+// Every cell that is due joins the queue, in order of cell number; answers how many.
+pub fn queue_unmarked(
+    kind: &[u16],
+    flags: &[u16],
+    count: &mut [u16],
+    queue: &mut [u16],
+    control: &mut [u16],
+    marks: &[u8],
+) -> u16
+    requires { ⌜ Room (now kind) (now flags) (now count) (now queue) (now control) (now marks) (dueOf (now kind) (now flags) (now marks)) ⌝ }
+    ensures { λ r. ⌜ Queued (now (kind .entry)) (now (flags .entry)) (now (count .entry)) (now (queue .entry)) (now (control .entry))
+        (dueOf (now (kind .entry)) (now (flags .entry)) (now (marks .entry))) (now (count .exit)) (now (queue .exit)) (now (control .exit)) r ⌝ }
+{
+    let mut queued = 0;
+    for c in 0..kind.len() {
+        queued += queue_cell(kind, flags, count, queue, control, marks, c);
+    }
+    queued
+}

@@ -1,0 +1,59 @@
+// The first round: references of unmarked cells come off their targets' counts.
+use crate::cells::is_garbage;
+ghost use Prim.Native.Nat.{_≤_, _<_};
+ghost use mathlib.Core.List.{[], _∷_};
+ghost use mathlib.Core.Path.{_≡_};
+ghost use lib.ListN.{length};
+ghost use Rattle.rules.specs.Heap.{slotsOf};
+ghost use Rattle.laws.specs.Marking.Marks.{Slots};
+ghost use Rattle.sweep.specs.Phases.{isGarbage, garbageOf, only, TakenOff, Unlinked};
+
+// A reference comes off its target's count, with no queueing and no cascade. The guard: a count met at zero is left at zero.
+fn lower(count: &mut [u16], reference: u16)
+    requires { ⌜ reference ≤ length (now count) ⌝ }
+    ensures { λ _. ⌜ TakenOff (now (count .entry)) (reference ∷ []) (now (count .exit)) ⌝ }
+{
+    if reference == 0 {
+        return;
+    }
+    let c = reference as usize - 1;
+    if count[c] == 0 {
+        return;
+    }
+    count[c] = count[c] - 1;
+}
+
+// The eight slots of a cell come off their targets' counts.
+fn lower_targets(count: &mut [u16], slots: &[u16], c: usize)
+    requires { ⌜ Slots (now slots) (length (now count)) ⌝ }
+    requires { ⌜ c < length (now count) ⌝ }
+    ensures { λ _. ⌜ TakenOff (now (count .entry)) (slotsOf (now (slots .entry)) c) (now (count .exit)) ⌝ }
+{
+    for k in 0..8 {
+        lower(count, slots[8 * c + k]);
+    }
+}
+
+// The slots of a cell come off, if it is garbage.
+fn unlink_cell(kind: &[u16], count: &mut [u16], slots: &[u16], marks: &[u8], c: usize)
+    requires { ⌜ (length (now kind) ≡ length (now count)) × (length (now marks) ≡ length (now count)) ⌝ }
+    requires { ⌜ Slots (now slots) (length (now count)) ⌝ }
+    requires { ⌜ c < length (now count) ⌝ }
+    ensures { λ _. ⌜ Unlinked (now (slots .entry)) (now (count .entry)) (only (isGarbage (now (kind .entry)) (now (marks .entry)) c) c) (now (count .exit)) ⌝ }
+{
+    if !is_garbage(kind, marks, c) {
+        return;
+    }
+    lower_targets(count, slots, c);
+}
+
+// The slots of all garbage come off.
+pub fn unlink_unmarked(kind: &[u16], count: &mut [u16], slots: &[u16], marks: &[u8])
+    requires { ⌜ (length (now kind) ≡ length (now count)) × (length (now marks) ≡ length (now count)) ⌝ }
+    requires { ⌜ Slots (now slots) (length (now count)) ⌝ }
+    ensures { λ _. ⌜ Unlinked (now (slots .entry)) (now (count .entry)) (garbageOf (now (kind .entry)) (now (marks .entry))) (now (count .exit)) ⌝ }
+{
+    for c in 0..kind.len() {
+        unlink_cell(kind, count, slots, marks, c);
+    }
+}

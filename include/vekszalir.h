@@ -1,0 +1,117 @@
+/*
+ * vekszalir.h: a script heap that counts references, runs finalizers through a queue, and sweeps.
+ *
+ * The heap is seven tables of 16-bit numbers that you lend to each call. N, the number of cells, is the
+ * length of the kind table, 1 to 1,024; the other lengths follow from it (VEK_SLOTS_LEN(n) and so on).
+ *
+ *     table     entries   meaning
+ *     kind      N         VEK_FREE, VEK_OBJECT, VEK_STRING, VEK_BUFFER
+ *     flags     N         0, VEK_FINALIZER (has a finalizer), VEK_FINALIZED (has one, and it has run)
+ *     count     N         references to the cell
+ *     slots     8 x N     cell c owns entries 8c to 8c+7
+ *     roots     64        your references
+ *     queue     N         cells that wait for their finalizer, oldest first
+ *     control   2         length of the queue; the running root plus 1, or 0 for none
+ *
+ * A reference is 0 for empty, or the cell's number plus 1.
+ *
+ * What you owe: the seven tables don't overlap, they are valid for their lengths (a length of 0 may come with
+ * a null pointer), and nobody else writes them during a call. Everything else is the heap's business: any
+ * lengths, any contents and any numbers are answered, with a refusal where something is wrong.
+ *
+ * What you get, proved for every list of calls from a vek_fresh that is done: no call frees a cell that your
+ * roots or the queue still reach; after each vek_collect that is done the used cells are just the reached
+ * ones; and without a sweep the same holds exactly when no unreached cells refer to each other in a ring.
+ *
+ * A call answers four numbers. `refused` is VEK_DONE or why nothing was done; a refused call changes no entry
+ * of any table and answers freed 0, queued 0, cell 0. `freed` is the number of cells that were used before
+ * the call and are free after it, `queued` the number of cells that the call put into the queue, and `cell`
+ * is the new cell of vek_new. Of several reasons for a refusal the lowest number is given.
+ */
+#ifndef VEKSZALIR_H
+#define VEKSZALIR_H
+
+#include <stddef.h>
+#include <stdint.h>
+
+#ifdef __cplusplus
+extern "C" {
+#endif
+
+/* Limits. */
+#define VEK_CELLS_MAX 1024
+#define VEK_ROOTS 64
+#define VEK_SLOTS 8
+#define VEK_CONTROL 2
+#define VEK_SLOTS_LEN(n) (VEK_SLOTS * (n))
+
+/* Kinds of cells. */
+#define VEK_FREE 0
+#define VEK_OBJECT 1
+#define VEK_STRING 2
+#define VEK_BUFFER 3
+
+/* Flags of objects. */
+#define VEK_FINALIZER 1
+#define VEK_FINALIZED 3
+
+/* Why a call was refused. */
+#define VEK_DONE 0
+#define VEK_SIZE 1     /* N is not 1 to 1,024, or the tables' lengths don't fit N */
+#define VEK_DAMAGED 2  /* the heap is not sound */
+#define VEK_NUMBER 3   /* a root above 63, a slot above 7, a bad kind or a bad wish for a finalizer */
+#define VEK_EMPTY 4    /* the root that should hold an object is empty */
+#define VEK_KIND 5     /* it holds a string or buffer */
+#define VEK_TAKEN 6    /* the root for vek_new or vek_start is not empty */
+#define VEK_FULL 7     /* vek_new, and no cell is free */
+#define VEK_BUSY 8     /* vek_start while a finalizer is running */
+#define VEK_NONE 9     /* vek_start with an empty queue */
+#define VEK_IDLE 10    /* vek_finish with no finalizer running */
+
+typedef struct {
+    uint16_t refused, freed, queued, cell;
+} vek_answer;
+
+/* Seven tables with their lengths, as every call takes them. */
+#define VEK_TABLES                                                                                   \
+    uint16_t *kind, size_t kind_len, uint16_t *flags, size_t flags_len, uint16_t *count,             \
+        size_t count_len, uint16_t *slots, size_t slots_len, uint16_t *roots, size_t roots_len,      \
+        uint16_t *queue, size_t queue_len, uint16_t *control, size_t control_len
+
+/* Every entry becomes 0, whatever stood there. Refused: SIZE. */
+vek_answer vek_fresh(VEK_TABLES);
+
+/* The lowest free cell, with count 1, is placed in an empty root. `finalizer` is 1 for an object that wants its
+   finalizer run, else 0. Refused: SIZE, DAMAGED, NUMBER, TAKEN, FULL. */
+vek_answer vek_new(VEK_TABLES, size_t root, size_t new_kind, size_t finalizer);
+
+/* The root is emptied; an empty root is no error. Refused: SIZE, DAMAGED, NUMBER. */
+vek_answer vek_clear(VEK_TABLES, size_t root);
+
+/* One root takes what another holds, which may be nothing. Refused: SIZE, DAMAGED, NUMBER. */
+vek_answer vek_copy(VEK_TABLES, size_t to_root, size_t from_root);
+
+/* A root takes what a slot of the object in another root holds. Refused: SIZE, DAMAGED, NUMBER, EMPTY, KIND. */
+vek_answer vek_load(VEK_TABLES, size_t to_root, size_t object_root, size_t slot);
+
+/* A slot of the object in a root takes what another root holds. Refused: SIZE, DAMAGED, NUMBER, EMPTY, KIND. */
+vek_answer vek_store(VEK_TABLES, size_t object_root, size_t slot, size_t from_root);
+
+/* A sweep: objects with a finalizer that nothing reaches join the queue, with all that they reach; every other
+   cell that nothing reaches is freed; a finalized object that is reached was rescued, and may be finalized again.
+   Allowed while a finalizer runs. Refused: SIZE, DAMAGED. */
+vek_answer vek_collect(VEK_TABLES);
+
+/* The queue's head is placed in an empty root for its finalizer, which you then run. The queue stays.
+   Refused: SIZE, DAMAGED, NUMBER, TAKEN, BUSY, NONE. */
+vek_answer vek_start(VEK_TABLES, size_t root);
+
+/* The finalizer has run: the head leaves the queue and is finalized, and the running root is emptied.
+   Refused: SIZE, DAMAGED, IDLE. */
+vek_answer vek_finish(VEK_TABLES);
+
+#ifdef __cplusplus
+}
+#endif
+
+#endif

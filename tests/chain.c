@@ -1,0 +1,52 @@
+/* Document 01: "Run by program as well: a chain of 1,024 objects, one root, one CLEAR that frees 1,024."
+   The chain is made by calls alone; then the tables must be as a fresh heap's. */
+#include "../include/vekszalir.h"
+
+#include <stdio.h>
+
+enum { N = 1024 };
+
+static uint16_t kind[N], flags[N], count[N], slots[8 * N], roots[64], queue[N], control[2];
+
+#define LENT kind, N, flags, N, count, N, slots, 8 * N, roots, 64, queue, N, control, 2
+
+static int failed;
+
+static void expect(const char *what, unsigned i, vek_answer a, unsigned refused, unsigned freed, unsigned queued, unsigned cell)
+{
+    if (a.refused == refused && a.freed == freed && a.queued == queued && a.cell == cell)
+        return;
+    if (!failed)
+        printf("%s %u: answered %u %u %u %u, not %u %u %u %u\n", what, i, a.refused, a.freed, a.queued, a.cell, refused, freed, queued, cell);
+    failed = 1;
+}
+
+static unsigned used(const uint16_t *table, unsigned n)
+{
+    unsigned k = 0;
+    for (unsigned i = 0; i < n; i++)
+        k += table[i] != 0;
+    return k;
+}
+
+int main(void)
+{
+    expect("fresh", 0, vek_fresh(LENT), VEK_DONE, 0, 0, 0);
+    /* root 0 holds the chain's head; each new object takes the chain into its slot 0 and becomes the head */
+    for (unsigned i = 0; i < N; i++) {
+        expect("new", i, vek_new(LENT, 1, VEK_OBJECT, 0), VEK_DONE, 0, 0, i);
+        expect("store", i, vek_store(LENT, 1, 0, 0), VEK_DONE, 0, 0, 0);
+        expect("copy", i, vek_copy(LENT, 0, 1), VEK_DONE, 0, 0, 0);
+        expect("clear", i, vek_clear(LENT, 1), VEK_DONE, 0, 0, 0);
+    }
+    expect("new", N, vek_new(LENT, 1, VEK_OBJECT, 0), VEK_FULL, 0, 0, 0);
+    expect("collect", 0, vek_collect(LENT), VEK_DONE, 0, 0, 0);
+    expect("clear", N, vek_clear(LENT, 0), VEK_DONE, N, 0, 0);
+    unsigned left = used(kind, N) + used(flags, N) + used(count, N) + used(slots, 8 * N) + used(roots, 64) + used(queue, N) + used(control, 2);
+    if (left) {
+        printf("%u entries are not 0 after the chain is freed\n", left);
+        failed = 1;
+    }
+    printf("%d passed, %d failed\n", !failed, failed);
+    return failed;
+}

@@ -1,0 +1,87 @@
+/* No call takes 4 KiB of stack. Each call runs on a stack of its own that was painted before: the deepest byte that
+   lost its paint says how far the call went. The heap is a chain of 1,024 objects, up or down, so that marking nests as
+   deep as it may and a CLEAR frees them all. */
+#include "../include/vekszalir.h"
+
+#include <stdio.h>
+#include <string.h>
+#include <ucontext.h>
+
+enum { N = 1024, STACK = 65536, LIMIT = 4096, PAINT = 0xA5 };
+
+static uint16_t kind[N], flags[N], count[N], slots[8 * N], roots[64], queue[N], control[2];
+
+#define LENT kind, N, flags, N, count, N, slots, 8 * N, roots, 64, queue, N, control, 2
+
+static _Alignas(16) unsigned char stack[STACK];
+static ucontext_t here, there;
+static vek_answer answer;
+static int failed;
+
+static void run_fresh(void) { answer = vek_fresh(LENT); }
+static void run_new(void) { answer = vek_new(LENT, 1, VEK_OBJECT, 0); }
+static void run_clear(void) { answer = vek_clear(LENT, 0); }
+static void run_copy(void) { answer = vek_copy(LENT, 1, 0); }
+static void run_load(void) { answer = vek_load(LENT, 1, 0, 0); }
+static void run_store(void) { answer = vek_store(LENT, 0, 1, 0); }
+static void run_collect(void) { answer = vek_collect(LENT); }
+static void run_start(void) { answer = vek_start(LENT, 1); }
+static void run_finish(void) { answer = vek_finish(LENT); }
+
+/* The first n cells as a chain through slot 0, from cell 0 up or from cell n - 1 down; root 0 holds its head. */
+static void chain(unsigned n, int up)
+{
+    vek_fresh(LENT);
+    for (unsigned i = 0; i < n; i++) {
+        unsigned c = up ? i : n - 1 - i;
+        kind[c] = VEK_OBJECT;
+        count[c] = 1;
+        *(i ? slots + 8 * (up ? c - 1 : c + 1) : roots) = c + 1;
+    }
+}
+
+static size_t depth(void)
+{
+    size_t untouched = 0;
+    while (untouched < STACK && stack[untouched] == PAINT)
+        untouched++;
+    return STACK - untouched;
+}
+
+static void measure(const char *name, void (*run)(void))
+{
+    memset(stack, PAINT, STACK);
+    getcontext(&there);
+    there.uc_stack.ss_sp = stack;
+    there.uc_stack.ss_size = STACK;
+    there.uc_link = &here;
+    makecontext(&there, run, 0);
+    swapcontext(&here, &there);
+    size_t deep = depth();
+    printf("stack of %s: %zu bytes\n", name, deep);
+    if (answer.refused != VEK_DONE || deep == 0 || deep >= LIMIT) {
+        printf("stack of %s: refused %u, or not under %d bytes\n", name, answer.refused, LIMIT);
+        failed = 1;
+    }
+}
+
+int main(void)
+{
+    chain(N - 1, 1), measure("new", run_new);
+    chain(N, 1), measure("copy", run_copy);
+    chain(N, 1), measure("load", run_load);
+    chain(N, 1), measure("store", run_store);
+    chain(N, 1), measure("collect, a chain up", run_collect);
+    chain(N, 0), measure("collect, a chain down", run_collect);
+    chain(N, 1), roots[0] = 0, count[0] = 1, slots[8 * (N - 1)] = 1, measure("collect, a loose ring", run_collect);
+    chain(N, 1), measure("clear", run_clear);
+    /* the chain's head waits in the queue, and FINISH frees the whole chain */
+    chain(N, 1), roots[0] = 0, queue[0] = 1, control[0] = 1, flags[0] = 1;
+    measure("start", run_start), measure("finish", run_finish);
+    if (answer.freed != N) {
+        printf("finish freed %u, not %d\n", answer.freed, N);
+        failed = 1;
+    }
+    measure("fresh", run_fresh);
+    return failed;
+}
