@@ -69,7 +69,7 @@ def copied(folder, proved):
 
 
 def first_error(said):
-    return next((line.split("/copy/crates/")[-1][:140] for line in said.splitlines() if ": error: " in line), "no error shown")
+    return next((line.split("/copy/crates/")[-1] for line in said.splitlines() if ": error: " in line), "not proved")
 
 
 def dev(copy, crate):
@@ -88,7 +88,10 @@ def within(crate, path, copy):
     accepted = [name for name in functions if f"fn {crate}::{name}: not proved" not in lines]
     if "logic=not-proved" not in lines or accepted:
         return False, f"NOT REFUSED {accepted}: {said[-2000:]}"
-    return True, f"refused, as it must be: {first_error(said)}"
+    error = first_error(said)
+    if "has no `Need-" in error:
+        return False, f"refused for the code's shape and not for a fact: {error}"
+    return True, f"refused, as it must be: {error[:140]}"
 
 
 def crate_edits(crate):
@@ -111,13 +114,18 @@ def across_edit(path):
         log = copy / "target" / "log" / f"{refused_by}.out"
         said = log.read_text() if log.exists() else run.stdout + run.stderr
     refused = run.returncode != 0 and "logic=not-proved" in said
-    words = f"refused by {refused_by}, as it must be: {first_error(said)}" if refused else f"NOT REFUSED by {refused_by}: {said[-2000:]}"
+    words = f"refused by {refused_by}, as it must be: {first_error(said)[:140]}" if refused else f"NOT REFUSED by {refused_by}: {said[-2000:]}"
     return [(f"{ACROSS}/{path.stem}", refused, words)]
+
+
+def replacements(crate):
+    """How much there is to refuse; the crates with most begin."""
+    return sum(len(read(path)[1]) for path in (EDITS / crate).glob("*.edit"))
 
 
 def main():
     wanted = sys.argv[1:] or sorted(p.name for p in EDITS.iterdir())
-    crates = sorted((w for w in wanted if w != ACROSS), key=lambda c: -len(list((EDITS / c).glob("*.edit"))))
+    crates = sorted((w for w in wanted if w != ACROSS), key=replacements, reverse=True)
     subprocess.run(["rt", "check"], cwd=TOP, check=True, stdout=subprocess.DEVNULL)
     jobs = [(crate_edits, crate) for crate in crates]
     jobs += [(across_edit, path) for path in sorted((EDITS / ACROSS).glob("*.edit")) if ACROSS in wanted]
