@@ -1,11 +1,12 @@
 // NEW.
 ghost use mathlib.Core.Path.{_≡_};
+ghost use mathlib.Core.Bool.{true};
 ghost use Prim.Native.Nat.{suc, _<_};
 ghost use lib.ListN.{length, set};
 ghost use Rattle.rules.specs.Refusals.{lowestFree, newOk};
 ghost use Rattle.calls_new.specs.Places.{Placed, Room};
 ghost use Rattle.rules.specs.Heap.{tables};
-ghost use Rattle.rules.specs.Calls.{Did};
+ghost use Rattle.rules.specs.Calls.{Did, answers};
 ghost use Rattle.rules.specs.Refusals.Call.{NEW};
 ghost use Rattle.laws.specs.Sound.Facts.{Ready};
 use calls_admission::admit;
@@ -56,18 +57,30 @@ fn place(
     roots: &mut [u16],
     c: usize,
     to: Root,
-    wanted: u16,
-    finalizer: u16,
+    wanted: usize,
+    finalizer: usize,
 )
-    requires { ⌜ Room (now kind) (now flags) (now count) (now roots) c (to .0) ⌝ }
+    requires { ⌜ Room (now kind) (now flags) (now count) (now roots) c (to .0) × (newOk wanted finalizer ≡ true) ⌝ }
     ensures { λ _. ⌜ Placed (now (kind .entry)) (now (flags .entry)) (now (count .entry)) (now (roots .entry)) c (to .0) wanted finalizer
         (now (kind .exit)) (now (flags .exit)) (now (count .exit)) (now (roots .exit)) ⌝ }
 {
     let at = to.index();
-    kind[c] = wanted;
-    flags[c] = finalizer;
+    kind[c] = wanted as u16;
+    flags[c] = finalizer as u16;
     count[c] = 1;
     roots[at] = c as u16 + 1;
+}
+
+// The answer of a NEW done.
+fn made(cell: u16) -> Answer
+    ensures { λ r. ⌜ r ≡ answers 0 0 0 cell ⌝ }
+{
+    Answer {
+        refused: DONE,
+        freed: 0,
+        queued: 0,
+        cell,
+    }
 }
 
 // NEW on a sound heap.
@@ -103,22 +116,8 @@ pub fn new_sound(
     if c == kind.len() {
         return refuse(FULL);
     }
-    place(
-        kind,
-        flags,
-        count,
-        roots,
-        c,
-        to,
-        wanted as u16,
-        finalizer as u16,
-    );
-    Answer {
-        refused: DONE,
-        freed: 0,
-        queued: 0,
-        cell: c as u16,
-    }
+    place(kind, flags, count, roots, c, to, wanted, finalizer);
+    made(c as u16)
 }
 
 // NEW: the lowest free cell, with count 1, is placed in an empty root.

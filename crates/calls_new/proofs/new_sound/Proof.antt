@@ -6,7 +6,7 @@ use mathlib.Core.Path.{refl, sym, _∙_}
 use borrow.Author.Tests.{not-true, not-false}
 use lib.ListN.{length}
 use Rattle.rules.specs.Refusals.{isFresh}
-use Rattle.laws.specs.Calls.Refusals.{lowest-le, newOk-of}
+use Rattle.laws.specs.Calls.Refusals.{lowest-le}
 use Rattle.laws.specs.Calls.Cases.{new-root, new-number, new-taken, new-full, new-goes}
 use Rattle.laws.specs.Calls.Admission.{inner-refused, inner-done}
 use Rattle.calls_new.proofs.Making.{new-does, new-answer}
@@ -72,26 +72,24 @@ returns-4 c =
     let empty = rw ((c .before .before .before .before .before .before .before .index .ensures) ∙ to .0) at (c .before .before .before .before .if2 .left) in
     inner-refused (c .before .before .before .before .before .before .before .before .before .before .before .before .before .before .before .before .before .before .before .before .pre) (unfold isFresh in refl) (new-full _ _ _ _ (to .1) ok empty (sym (c .before .before .lowest-free .ensures) ∙ (c .before .if3 .taken))) (λ e. omega arith) (c .refuse4 .ensures)
 
-cast-place : tie.Need-cast-place
-cast-place c = let ok = sym (c .before .before .before .before .before .before .before .before .before .before .before .makes .ensures) ∙ not-false _ (c .before .before .before .before .before .before .before .before .if1 .left) in omega (arith, newOk-of _ _ ok)
-
-cast-place-2 : tie.Need-cast-place-2
-cast-place-2 c = let ok = sym (c .before .before .before .before .before .before .before .before .before .before .before .makes .ensures) ∙ not-false _ (c .before .before .before .before .before .before .before .before .if1 .left) in omega (arith, newOk-of _ _ ok)
-
 place-requires : tie.Need-place-requires
-place-requires c κs =
-    let to = rw (c .before .before .before .before .before .before .before .before .before .before .before .before .before .to .given .1) at (c .before .before .before .before .before .before .before .before .before .before .before .before .before .before .before .of .ensures) in
-    let low : (c .before .before .before .before .before .lowest-free .result) < length (c .before .before .before .before .before .before .before .before .before .before .before .before .before .before .before .before .before .before .before .before .before .before .before .args .kind .now) = omega (arith, (c .before .before .before .before .before .lowest-free .ensures), lowest-le (c .before .before .before .before .before .before .before .before .before .before .before .before .before .before .before .before .before .before .before .before .before .before .before .args .kind .now), (c .before .before .before .before .if3 .left)) in
-    record {
-      small = (c .before .before .before .before .before .before .before .before .before .before .before .before .before .before .before .before .before .before .before .before .before .before .before .pre .sized .most);
-      kindRoom = low;
-      flagsRoom = omega (arith, (c .before .before .before .before .before .before .before .before .before .before .before .before .before .before .before .before .before .before .before .before .before .before .before .pre .sized .flags));
-      countRoom = omega (arith, (c .before .before .before .before .before .before .before .before .before .before .before .before .before .before .before .before .before .before .before .before .before .before .before .pre .sized .count));
-      rootsRoom = omega (arith, (c .before .before .before .before .before .before .before .before .before .before .before .before .before .before .before .before .before .before .before .before .before .before .before .pre .sized .roots));
-    }
+place-requires c κs = let to = rw (c .before .before .before .before .before .before .before .before .before .before .before .before .before .to .given .1) at (c .before .before .before .before .before .before .before .before .before .before .before .before .before .before .before .of .ensures) in
+    let low : (c .before .before .before .before .before .lowest-free .result) < length (c .before .before .before .before .before .before .before .before .before .before .before .before .before .before .before .before .before .before .before .before .before .before .before .args .kind .now) = omega (arith, (c .before .before .before .before .before .lowest-free .ensures), lowest-le (c .before .before .before .before .before .before .before .before .before .before .before .before .before .before .before .before .before .before .before .before .before .before .before .args .kind .now), (c .before .before .before .before .if3 .left)) in (
+      record {
+        small = (c .before .before .before .before .before .before .before .before .before .before .before .before .before .before .before .before .before .before .before .before .before .before .before .pre .sized .most);
+        kindRoom = low;
+        flagsRoom = omega (arith, (c .before .before .before .before .before .before .before .before .before .before .before .before .before .before .before .before .before .before .before .before .before .before .before .pre .sized .flags));
+        countRoom = omega (arith, (c .before .before .before .before .before .before .before .before .before .before .before .before .before .before .before .before .before .before .before .before .before .before .before .pre .sized .count));
+        rootsRoom = omega (arith, (c .before .before .before .before .before .before .before .before .before .before .before .before .before .before .before .before .before .before .before .before .before .before .before .pre .sized .roots));
+      },
+      sym (c .before .before .before .before .before .before .before .before .before .before .before .makes .ensures) ∙ not-false _ (c .before .before .before .before .before .before .before .before .if1 .left),
+    )
 
-cast-t19 : tie.Need-cast-t19
-cast-t19 c = omega (arith, (c .before .before .before .before .before .before .before .before .before .before .before .before .before .before .lowest-free .ensures), lowest-le (c .before .before .before .before .before .before .before .before .before .before .before .before .before .before .before .before .before .before .before .before .before .before .before .before .before .before .before .before .before .before .before .before .args .kind .now), (c .before .before .before .before .before .before .before .before .before .before .before .before .before .before .before .before .before .before .before .before .before .before .before .before .before .before .before .before .before .before .before .before .pre .sized .most))
+cast-made : tie.Need-cast-made
+cast-made c = omega (arith, (c .before .before .before .before .before .before .before .before .before .before .before .before .before .before .lowest-free .ensures), lowest-le (c .before .before .before .before .before .before .before .before .before .before .before .before .before .before .before .before .before .before .before .before .before .before .before .before .before .before .before .before .before .before .before .before .args .kind .now), (c .before .before .before .before .before .before .before .before .before .before .before .before .before .before .before .before .before .before .before .before .before .before .before .before .before .before .before .before .before .before .before .before .pre .sized .most))
+
+made-requires : tie.Need-made-requires
+made-requires c κs = search needs
 
 same-length-2 : tie.Need-same-length-2
 same-length-2 c = search needs
@@ -106,13 +104,12 @@ same-length-5 : tie.Need-same-length-5
 same-length-5 c = search needs
 
 returns-5 : tie.Need-returns-5
-returns-5 c =
-    let to = rw (c .before .before .before .before .before .before .before .before .before .before .before .before .before .before .before .before .before .before .before .before .before .before .to .given .1) at (c .before .before .before .before .before .before .before .before .before .before .before .before .before .before .before .before .before .before .before .before .before .before .before .before .of .ensures) in
-    let ok = sym (c .before .before .before .before .before .before .before .before .before .before .before .before .before .before .before .before .before .before .before .before .makes .ensures) ∙ not-false _ (c .before .before .before .before .before .before .before .before .before .before .before .before .before .before .before .before .before .if1 .left) in
-    let empty = rw ((c .before .before .before .before .before .before .before .before .before .before .before .before .before .before .before .before .before .before .before .index .ensures) ∙ to .0) at (c .before .before .before .before .before .before .before .before .before .before .before .before .before .before .before .before .if2 .left) in
-    inner-done (c .before .before .before .before .before .before .before .before .before .before .before .before .before .before .before .before .before .before .before .before .before .before .before .before .before .before .before .before .before .before .before .before .pre) (unfold isFresh in refl) (new-goes _ _ _ _ (to .1) ok empty (λ e. (c .before .before .before .before .before .before .before .before .before .before .before .before .before .if3 .left) ((c .before .before .before .before .before .before .before .before .before .before .before .before .before .before .lowest-free .ensures) ∙ e)))
-    (new-does _ _ _ _ (c .before .before .before .before .before .before .before .before .before .before .before .before .before .before .lowest-free .ensures) (to .0) (c .before .before .before .before .before .before .before .before .place .ensures))
-    (new-answer _ _ _ _ (c .before .before .before .before .before .before .before .before .before .before .before .before .before .before .lowest-free .ensures))
+returns-5 c = let to = rw (c .before .before .before .before .before .before .before .before .before .before .before .before .before .before .before .before .before .before .before .before .before .before .before .to .given .1) at (c .before .before .before .before .before .before .before .before .before .before .before .before .before .before .before .before .before .before .before .before .before .before .before .before .before .of .ensures) in
+    let ok = sym (c .before .before .before .before .before .before .before .before .before .before .before .before .before .before .before .before .before .before .before .before .before .makes .ensures) ∙ not-false _ (c .before .before .before .before .before .before .before .before .before .before .before .before .before .before .before .before .before .before .if1 .left) in
+    let empty = rw ((c .before .before .before .before .before .before .before .before .before .before .before .before .before .before .before .before .before .before .before .before .index .ensures) ∙ to .0) at (c .before .before .before .before .before .before .before .before .before .before .before .before .before .before .before .before .before .if2 .left) in
+    inner-done (c .before .before .before .before .before .before .before .before .before .before .before .before .before .before .before .before .before .before .before .before .before .before .before .before .before .before .before .before .before .before .before .before .before .pre) (unfold isFresh in refl) (new-goes _ _ _ _ (to .1) ok empty (λ e. (c .before .before .before .before .before .before .before .before .before .before .before .before .before .before .if3 .left) ((c .before .before .before .before .before .before .before .before .before .before .before .before .before .before .before .lowest-free .ensures) ∙ e)))
+    (new-does _ _ _ _ (c .before .before .before .before .before .before .before .before .before .before .before .before .before .before .before .lowest-free .ensures) (to .0) (c .before .before .before .before .before .before .before .before .before .place .ensures))
+    ((c .made .ensures) ∙ new-answer _ _ _ _ (c .before .before .before .before .before .before .before .before .before .before .before .before .before .before .before .lowest-free .ensures))
 
 pub new-sound-spec : {M : Type 1} → statement M
 new-sound-spec =
@@ -135,10 +132,9 @@ new-sound-spec =
     refuse-requires-4
     same-length
     returns-4
-    cast-place
-    cast-place-2
     place-requires
-    cast-t19
+    cast-made
+    made-requires
     same-length-2
     same-length-3
     same-length-4

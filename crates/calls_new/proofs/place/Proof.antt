@@ -1,7 +1,9 @@
 -- `calls::new::place` meets its contract.
 -- Assumes nothing.
+use native.Mathlib.Omega.{arith}
 use native.Mathlib.Numerals.{add-one}
 use mathlib.Core.Path.{refl}
+use Rattle.laws.specs.Calls.Refusals.{newOk-of}
 use borrow.Author.Needs.{needs}
 use Rattle.calls_new.proofs.place.Statement.{statement}
 use Rattle.calls_new.proofs.place.Tie as tie
@@ -9,11 +11,17 @@ use Rattle.calls_new.proofs.place.Tie as tie
 index-requires : tie.Need-index-requires
 index-requires c κs = search needs
 
+cast-kind : tie.Need-cast-kind
+cast-kind c = omega (arith, newOk-of _ _ (c .before .before .before .before .before .pre .1))
+
 mul-kind : tie.Need-mul-kind
 mul-kind c = search needs
 
 slice-write-kind : tie.Need-slice-write-kind
 slice-write-kind c = search needs
+
+cast-flags : tie.Need-cast-flags
+cast-flags c = omega (arith, newOk-of _ _ (c .before .before .before .before .before .pre .1))
 
 mul-flags : tie.Need-mul-flags
 mul-flags c = search needs
@@ -59,8 +67,10 @@ place-spec =
     tie.close
     (tie.spec
     index-requires
+    cast-kind
     mul-kind
     slice-write-kind
+    cast-flags
     mul-flags
     slice-write-flags
     mul-count
