@@ -72,6 +72,23 @@ typedef struct {
     uint16_t refused, freed, queued, cell;
 } vek_answer;
 
+/* Room for a heap of n cells, and the words that lend its tables to a call:
+
+       static VEK_STORAGE(256) shop;
+       vek_answer a = vek_fresh(VEK_LEND(shop));
+
+   Tables that lie elsewhere are lent one by one, each with its length. */
+#define VEK_STORAGE(n)                                                                               \
+    struct {                                                                                         \
+        uint16_t kind[n], flags[n], count[n], slots[VEK_SLOTS_LEN(n)], roots[VEK_ROOTS], queue[n],   \
+            control[VEK_CONTROL];                                                                    \
+    }
+#define VEK_LEND_TABLE(table) (table), sizeof(table) / sizeof((table)[0])
+#define VEK_LEND(heap)                                                                               \
+    VEK_LEND_TABLE((heap).kind), VEK_LEND_TABLE((heap).flags), VEK_LEND_TABLE((heap).count),         \
+        VEK_LEND_TABLE((heap).slots), VEK_LEND_TABLE((heap).roots), VEK_LEND_TABLE((heap).queue),    \
+        VEK_LEND_TABLE((heap).control)
+
 /* Seven tables with their lengths, as every call takes them. */
 #define VEK_TABLES                                                                                   \
     uint16_t *kind, size_t kind_len, uint16_t *flags, size_t flags_len, uint16_t *count,             \

@@ -6,9 +6,7 @@
 
 enum { N = 1024 };
 
-static uint16_t kind[N], flags[N], count[N], slots[8 * N], roots[64], queue[N], control[2];
-
-#define LENT kind, N, flags, N, count, N, slots, 8 * N, roots, 64, queue, N, control, 2
+static VEK_STORAGE(N) heap;
 
 static int failed;
 
@@ -31,18 +29,18 @@ static unsigned used(const uint16_t *table, unsigned n)
 
 int main(void)
 {
-    expect("fresh", 0, vek_fresh(LENT), VEK_DONE, 0, 0, 0);
+    expect("fresh", 0, vek_fresh(VEK_LEND(heap)), VEK_DONE, 0, 0, 0);
     /* root 0 holds the chain's head; each new object takes the chain into its slot 0 and becomes the head */
     for (unsigned i = 0; i < N; i++) {
-        expect("new", i, vek_new(LENT, 1, VEK_OBJECT, 0), VEK_DONE, 0, 0, i);
-        expect("store", i, vek_store(LENT, 1, 0, 0), VEK_DONE, 0, 0, 0);
-        expect("copy", i, vek_copy(LENT, 0, 1), VEK_DONE, 0, 0, 0);
-        expect("clear", i, vek_clear(LENT, 1), VEK_DONE, 0, 0, 0);
+        expect("new", i, vek_new(VEK_LEND(heap), 1, VEK_OBJECT, 0), VEK_DONE, 0, 0, i);
+        expect("store", i, vek_store(VEK_LEND(heap), 1, 0, 0), VEK_DONE, 0, 0, 0);
+        expect("copy", i, vek_copy(VEK_LEND(heap), 0, 1), VEK_DONE, 0, 0, 0);
+        expect("clear", i, vek_clear(VEK_LEND(heap), 1), VEK_DONE, 0, 0, 0);
     }
-    expect("new", N, vek_new(LENT, 1, VEK_OBJECT, 0), VEK_FULL, 0, 0, 0);
-    expect("collect", 0, vek_collect(LENT), VEK_DONE, 0, 0, 0);
-    expect("clear", N, vek_clear(LENT, 0), VEK_DONE, N, 0, 0);
-    unsigned left = used(kind, N) + used(flags, N) + used(count, N) + used(slots, 8 * N) + used(roots, 64) + used(queue, N) + used(control, 2);
+    expect("new", N, vek_new(VEK_LEND(heap), 1, VEK_OBJECT, 0), VEK_FULL, 0, 0, 0);
+    expect("collect", 0, vek_collect(VEK_LEND(heap)), VEK_DONE, 0, 0, 0);
+    expect("clear", N, vek_clear(VEK_LEND(heap), 0), VEK_DONE, N, 0, 0);
+    unsigned left = used((const uint16_t *)&heap, sizeof heap / sizeof(uint16_t));
     if (left) {
         printf("%u entries are not 0 after the chain is freed\n", left);
         failed = 1;

@@ -1,8 +1,8 @@
 #!/usr/bin/env python3
 """Every file of the repository has its place: a crate that crates.txt lists, or one of the folders below.
 
-`rt ci` refuses a Rattle or antt file that no listed crate has; this test does so for files of every kind.
-The last line printed is 'N passed, M failed'.
+`rt ci` refuses a Rattle or antt file that no listed crate has; this test does so for files of every kind. Every
+wrong edit begins with words that say what it gets wrong. The last line printed is 'N passed, M failed'.
 """
 import pathlib
 import re
@@ -14,6 +14,7 @@ TOP = pathlib.Path(__file__).resolve().parent.parent
 # What stands outside the crates, as patterns over paths from the top.
 PLACES = [
     r"README\.md",
+    r"Makefile",
     r"crates\.txt",
     r"\.gitignore",
     r"\.ci/run",
@@ -21,8 +22,11 @@ PLACES = [
     r"docs/changes/Q-\d\d\.md",
     r"tests/[a-z_]+\.(py|c)",
     r"tests/edits/[a-z_]+/[a-z0-9_]+\.edit",
+    r"tests/independent/[a-z_]+\.[ch]",
+    r"tests/independent/edits/[a-z0-9_]+\.edit",
     r"bench/[a-z]+\.(c|h|py)",
-    r"include/vekszalir\.h",
+    r"include/vekszalir\.(h|pc\.in)",
+    r"examples/(host\.(c|txt)|basket\.csv)",
 ]
 
 # What a crate may hold.
@@ -38,21 +42,32 @@ def listed():
     return names
 
 
-def main():
-    files = subprocess.run(
-        ["git", "ls-files", "-co", "--exclude-standard"], cwd=TOP, capture_output=True, text=True, check=True
-    ).stdout.splitlines()
+def stray(files):
     crates = "|".join(sorted(map(re.escape, listed())))
     allowed = re.compile("|".join([rf"crates/({crates})/{PARTS}", *PLACES]))
-    stray = [f for f in files if (TOP / f).exists() and not allowed.fullmatch(f)]
-    for f in stray:
-        print(f"stray file: {f}")
+    return [f"stray file: {f}" for f in files if not allowed.fullmatch(f)]
+
+
+def unlisted(_):
     folders = {p.name for p in (TOP / "crates").iterdir() if p.is_dir()}
-    unlisted = sorted(folders - listed())
-    for name in unlisted:
-        print(f"crates/{name} is not listed in crates.txt")
-    failed = (1 if stray else 0) + (1 if unlisted else 0)
-    print(f"{2 - failed} passed, {failed} failed")
+    return [f"crates/{name} is not listed in crates.txt" for name in sorted(folders - listed())]
+
+
+def wordless(files):
+    edits = [f for f in files if f.endswith(".edit")]
+    return [f"{f} does not say what it gets wrong" for f in edits if re.match(r"[a-z-]+: ", (TOP / f).read_text())]
+
+
+def main():
+    shown = subprocess.run(["git", "ls-files", "-co", "--exclude-standard"], cwd=TOP, capture_output=True, text=True, check=True)
+    files = [f for f in shown.stdout.splitlines() if (TOP / f).exists()]
+    failed = 0
+    for test in (stray, unlisted, wordless):
+        faults = test(files)
+        failed += bool(faults)
+        for fault in faults:
+            print(fault)
+    print(f"{3 - failed} passed, {failed} failed")
     return 1 if failed else 0
 
 

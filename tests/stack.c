@@ -9,34 +9,32 @@
 
 enum { N = 1024, STACK = 65536, LIMIT = 4096, PAINT = 0xA5 };
 
-static uint16_t kind[N], flags[N], count[N], slots[8 * N], roots[64], queue[N], control[2];
-
-#define LENT kind, N, flags, N, count, N, slots, 8 * N, roots, 64, queue, N, control, 2
+static VEK_STORAGE(N) heap;
 
 static _Alignas(16) unsigned char stack[STACK];
 static ucontext_t here, there;
 static vek_answer answer;
 static int failed;
 
-static void run_fresh(void) { answer = vek_fresh(LENT); }
-static void run_new(void) { answer = vek_new(LENT, 1, VEK_OBJECT, 0); }
-static void run_clear(void) { answer = vek_clear(LENT, 0); }
-static void run_copy(void) { answer = vek_copy(LENT, 1, 0); }
-static void run_load(void) { answer = vek_load(LENT, 1, 0, 0); }
-static void run_store(void) { answer = vek_store(LENT, 0, 1, 0); }
-static void run_collect(void) { answer = vek_collect(LENT); }
-static void run_start(void) { answer = vek_start(LENT, 1); }
-static void run_finish(void) { answer = vek_finish(LENT); }
+static void run_fresh(void) { answer = vek_fresh(VEK_LEND(heap)); }
+static void run_new(void) { answer = vek_new(VEK_LEND(heap), 1, VEK_OBJECT, 0); }
+static void run_clear(void) { answer = vek_clear(VEK_LEND(heap), 0); }
+static void run_copy(void) { answer = vek_copy(VEK_LEND(heap), 1, 0); }
+static void run_load(void) { answer = vek_load(VEK_LEND(heap), 1, 0, 0); }
+static void run_store(void) { answer = vek_store(VEK_LEND(heap), 0, 1, 0); }
+static void run_collect(void) { answer = vek_collect(VEK_LEND(heap)); }
+static void run_start(void) { answer = vek_start(VEK_LEND(heap), 1); }
+static void run_finish(void) { answer = vek_finish(VEK_LEND(heap)); }
 
 /* The first n cells as a chain through slot 0, from cell 0 up or from cell n - 1 down; root 0 holds its head. */
 static void chain(unsigned n, int up)
 {
-    vek_fresh(LENT);
+    vek_fresh(VEK_LEND(heap));
     for (unsigned i = 0; i < n; i++) {
         unsigned c = up ? i : n - 1 - i;
-        kind[c] = VEK_OBJECT;
-        count[c] = 1;
-        *(i ? slots + 8 * (up ? c - 1 : c + 1) : roots) = c + 1;
+        heap.kind[c] = VEK_OBJECT;
+        heap.count[c] = 1;
+        *(i ? heap.slots + 8 * (up ? c - 1 : c + 1) : heap.roots) = c + 1;
     }
 }
 
@@ -73,10 +71,10 @@ int main(void)
     chain(N, 1), measure("store", run_store);
     chain(N, 1), measure("collect, a chain up", run_collect);
     chain(N, 0), measure("collect, a chain down", run_collect);
-    chain(N, 1), roots[0] = 0, count[0] = 1, slots[8 * (N - 1)] = 1, measure("collect, a loose ring", run_collect);
+    chain(N, 1), heap.roots[0] = 0, heap.count[0] = 1, heap.slots[8 * (N - 1)] = 1, measure("collect, a loose ring", run_collect);
     chain(N, 1), measure("clear", run_clear);
     /* the chain's head waits in the queue, and FINISH frees the whole chain */
-    chain(N, 1), roots[0] = 0, queue[0] = 1, control[0] = 1, flags[0] = 1;
+    chain(N, 1), heap.roots[0] = 0, heap.queue[0] = 1, heap.control[0] = 1, heap.flags[0] = 1;
     measure("start", run_start), measure("finish", run_finish);
     if (answer.freed != N) {
         printf("finish freed %u, not %d\n", answer.freed, N);
