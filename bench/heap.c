@@ -3,8 +3,7 @@
 
 #include <string.h>
 
-enum { CELLS_MAX = 1024, ROOTS = 64, SLOTS = 8, DEPTH = 16 };
-enum { SIZE = 1, DAMAGED, NUMBER, EMPTY, KIND, TAKEN, FULL, BUSY, NONE, IDLE };
+enum { DEPTH = 16 };
 enum { UNMARKED, MARKED, NOTED };
 
 /* A heap whose lengths have been checked. */
@@ -13,83 +12,84 @@ typedef struct {
     size_t n;
 } heap;
 
-static answer refuse(uint16_t why) { return (answer){why, 0, 0, 0}; }
+static vek_answer refuse(uint16_t why) { return (vek_answer){why, 0, 0, 0}; }
 
-static int fits(TABLES)
+static int fits(VEK_TABLES)
 {
     (void)kind, (void)flags, (void)count, (void)slots, (void)roots, (void)queue, (void)control;
-    return kind_len >= 1 && kind_len <= CELLS_MAX && flags_len == kind_len && count_len == kind_len &&
-           slots_len == SLOTS * kind_len && roots_len == ROOTS && queue_len == kind_len && control_len == 2;
+    return kind_len >= 1 && kind_len <= VEK_CELLS_MAX && flags_len == kind_len && count_len == kind_len &&
+           slots_len == VEK_SLOTS * kind_len && roots_len == VEK_ROOTS && queue_len == kind_len && control_len == 2;
 }
 
-/* The eight slots of a cell, tested as two words. */
-static inline int empty(const uint16_t *s)
+/* Are four references empty? Tested as one word. */
+static inline int empty(const uint16_t *four)
 {
-    uint64_t a, b;
-    memcpy(&a, s, sizeof a);
-    memcpy(&b, s + 4, sizeof b);
-    return (a | b) == 0;
+    uint64_t word;
+    memcpy(&word, four, sizeof word);
+    return word == 0;
 }
 
-/* One pass over the cells, with a tally of the references. */
-static int sound(const heap *h)
+/* Tallies four references; whether each is empty or names a cell. Entry 0 of the tally takes the empty ones. */
+static inline int tally_four(uint16_t *tally, const uint16_t *four, size_t n)
 {
-    const uint16_t *kind = h->kind, *flags = h->flags, *count = h->count;
-    size_t n = h->n, length = h->control[0], running = h->control[1];
-    uint16_t tally[CELLS_MAX];
-    memset(tally, 0, n * sizeof tally[0]);
-    if (length > n || (running && (running > ROOTS || length == 0)))
-        return 0;
+    if (empty(four))
+        return 1;
+#pragma GCC unroll 4
+    for (size_t i = 0; i < 4; i++) {
+        size_t r = four[i];
+        if (r > n)
+            return 0;
+        tally[r]++;
+    }
+    return 1;
+}
+
+/* The entries in use name distinct objects with flags 1, and the others are 0. */
+static int queue_ok(const heap *h, uint16_t *tally, size_t length)
+{
     for (size_t i = 0; i < length; i++) {
         size_t r = h->queue[i];
-        if (r == 0 || r > n)
+        if (r == 0 || r > h->n || h->kind[r - 1] != VEK_OBJECT || h->flags[r - 1] != VEK_FINALIZER || tally[r])
             return 0;
-        if (kind[r - 1] != 1 || flags[r - 1] != 1 || tally[r - 1])
-            return 0;
-        tally[r - 1] = 1;
+        tally[r] = 1;
     }
-    for (size_t i = length; i < n; i++)
+    for (size_t i = length; i < h->n; i++)
         if (h->queue[i])
             return 0;
-    for (size_t i = 0; i < ROOTS; i++) {
-        size_t r = h->roots[i];
-        if (r) {
-            if (r > n)
-                return 0;
-            tally[r - 1]++;
-        }
-    }
-    for (size_t c = 0; c < n; c++) {
-        const uint16_t *s = h->slots + SLOTS * c;
-        unsigned k = kind[c], f = flags[c];
-        if (k == 1) {
-            if (f > 3 || f == 2 || count[c] == 0)
-                return 0;
-            if (empty(s))
-                continue;
-#pragma GCC unroll 8
-            for (size_t j = 0; j < SLOTS; j++) {
-                size_t r = s[j];
-                if (r) {
-                    if (r > n)
-                        return 0;
-                    tally[r - 1]++;
-                }
-            }
-        } else if (k > 3 || f || (count[c] != 0) != (k != 0) || !empty(s)) {
-            return 0;
-        }
-    }
-    for (size_t c = 0; c < n; c++)
-        if (tally[c] != count[c])
-            return 0;
     return 1;
+}
+
+/* Kind, flags and count go together, and only objects use slots. */
+static inline int cell_ok(const heap *h, uint16_t *tally, size_t c)
+{
+    const uint16_t *s = h->slots + VEK_SLOTS * c;
+    unsigned k = h->kind[c], f = h->flags[c], m = h->count[c];
+    if (k == VEK_OBJECT)
+        return f <= VEK_FINALIZED && f != 2 && m && tally_four(tally, s, h->n) && tally_four(tally, s + 4, h->n);
+    return k <= VEK_BUFFER && !f && (m != 0) == (k != 0) && empty(s) && empty(s + 4);
+}
+
+/* One pass over the cells, and one over the counts. */
+static int sound(const heap *h)
+{
+    size_t n = h->n, length = h->control[0], running = h->control[1];
+    uint16_t tally[VEK_CELLS_MAX + 1];
+    memset(tally, 0, (n + 1) * sizeof tally[0]);
+    if (length > n || (running && (running > VEK_ROOTS || length == 0)) || !queue_ok(h, tally, length))
+        return 0;
+    for (size_t i = 0; i < VEK_ROOTS; i += 4)
+        if (!tally_four(tally, h->roots + i, n))
+            return 0;
+    for (size_t c = 0; c < n; c++)
+        if (!cell_ok(h, tally, c))
+            return 0;
+    return memcmp(tally + 1, h->count, n * sizeof *tally) == 0;
 }
 
 /* ---- taking off */
 
 typedef struct {
-    uint16_t work[CELLS_MAX];
+    uint16_t work[VEK_CELLS_MAX];
     size_t tail;
 } worklist;
 
@@ -118,7 +118,7 @@ static void wipe(heap *h, size_t c)
     h->kind[c] = 0;
     h->flags[c] = 0;
     h->count[c] = 0;
-    memset(h->slots + SLOTS * c, 0, SLOTS * sizeof *h->slots);
+    memset(h->slots + VEK_SLOTS * c, 0, VEK_SLOTS * sizeof *h->slots);
 }
 
 /* A full take-off; the number of cells freed. */
@@ -136,22 +136,22 @@ static unsigned release(heap *h, unsigned r)
     size_t head = 0;
     for (; head < w.tail; head++) {
         size_t c = w.work[head];
-        const uint16_t *s = h->slots + SLOTS * c;
-        for (size_t i = 0; i < SLOTS; i++)
+        const uint16_t *s = h->slots + VEK_SLOTS * c;
+        for (size_t i = 0; i < VEK_SLOTS; i++)
             decref(h, &w, s[i]);
         wipe(h, c);
     }
     return head;
 }
 
-static answer write_ref(heap *h, uint16_t *place, unsigned r)
+static vek_answer write_ref(heap *h, uint16_t *place, unsigned r)
 {
     unsigned queued = h->control[0], old = *place;
     if (r)
         h->count[r - 1]++;
     *place = r;
     unsigned freed = release(h, old);
-    return (answer){0, freed, h->control[0] - queued, 0};
+    return (vek_answer){0, freed, h->control[0] - queued, 0};
 }
 
 /* ---- collecting */
@@ -163,8 +163,8 @@ static void mark_cell(const uint16_t *slots, uint8_t *marks, size_t c, unsigned 
         return;
     }
     marks[c] = MARKED;
-    const uint16_t *s = slots + SLOTS * c;
-    for (size_t i = 0; i < SLOTS; i++)
+    const uint16_t *s = slots + VEK_SLOTS * c;
+    for (size_t i = 0; i < VEK_SLOTS; i++)
         if (s[i] && marks[s[i] - 1] != MARKED)
             mark_cell(slots, marks, s[i] - 1, depth - 1);
 }
@@ -193,12 +193,12 @@ static void serve_noted(const uint16_t *slots, uint8_t *marks, size_t n)
         mark_cell(slots, marks, c, DEPTH);
 }
 
-static answer collect(heap *h)
+static vek_answer collect(heap *h)
 {
-    uint8_t marks[CELLS_MAX];
+    uint8_t marks[VEK_CELLS_MAX];
     size_t n = h->n, old = h->control[0];
     memset(marks, UNMARKED, sizeof marks);
-    mark_refs(h->slots, marks, h->roots, ROOTS);
+    mark_refs(h->slots, marks, h->roots, VEK_ROOTS);
     mark_refs(h->slots, marks, h->queue, old);
     serve_noted(h->slots, marks, n);
     for (size_t c = 0; c < n; c++)
@@ -211,8 +211,8 @@ static answer collect(heap *h)
     serve_noted(h->slots, marks, n);
     for (size_t c = 0; c < n; c++)
         if (marks[c] == UNMARKED && h->kind[c]) {
-            const uint16_t *s = h->slots + SLOTS * c;
-            for (size_t i = 0; i < SLOTS; i++)
+            const uint16_t *s = h->slots + VEK_SLOTS * c;
+            for (size_t i = 0; i < VEK_SLOTS; i++)
                 if (s[i] && h->count[s[i] - 1])
                     h->count[s[i] - 1]--;
         }
@@ -225,7 +225,7 @@ static answer collect(heap *h)
     for (size_t c = 0; c < n; c++)
         if (marks[c] != UNMARKED && h->flags[c] == 3)
             h->flags[c] = 1;
-    return (answer){0, freed, all - old, 0};
+    return (vek_answer){0, freed, all - old, 0};
 }
 
 /* ---- the calls */
@@ -234,12 +234,12 @@ static answer collect(heap *h)
     heap h = {kind, flags, count, slots, roots, queue, control, kind_len};                           \
     if (!fits(kind, kind_len, flags, flags_len, count, count_len, slots, slots_len, roots,           \
               roots_len, queue, queue_len, control, control_len))                                    \
-        return refuse(SIZE);
+        return refuse(VEK_SIZE);
 
 #define SOUND_HEAP                                                                                   \
-    HEAP if (!sound(&h)) return refuse(DAMAGED);
+    HEAP if (!sound(&h)) return refuse(VEK_DAMAGED);
 
-answer c_fresh(TABLES)
+vek_answer c_fresh(VEK_TABLES)
 {
     HEAP
     memset(kind, 0, kind_len * sizeof *kind);
@@ -253,93 +253,93 @@ answer c_fresh(TABLES)
     return refuse(0);
 }
 
-answer c_new(TABLES, size_t root, size_t new_kind, size_t finalizer)
+vek_answer c_new(VEK_TABLES, size_t root, size_t new_kind, size_t finalizer)
 {
     SOUND_HEAP
-    if (root >= ROOTS || new_kind < 1 || new_kind > 3 || finalizer > 1 || (finalizer == 1 && new_kind != 1))
-        return refuse(NUMBER);
+    if (root >= VEK_ROOTS || new_kind < 1 || new_kind > 3 || finalizer > 1 || (finalizer == 1 && new_kind != 1))
+        return refuse(VEK_NUMBER);
     if (roots[root])
-        return refuse(TAKEN);
+        return refuse(VEK_TAKEN);
     size_t c = 0;
     while (c < h.n && kind[c])
         c++;
     if (c == h.n)
-        return refuse(FULL);
+        return refuse(VEK_FULL);
     kind[c] = new_kind;
     flags[c] = finalizer;
     count[c] = 1;
     roots[root] = c + 1;
-    return (answer){0, 0, 0, c};
+    return (vek_answer){0, 0, 0, c};
 }
 
-answer c_clear(TABLES, size_t root)
+vek_answer c_clear(VEK_TABLES, size_t root)
 {
     SOUND_HEAP
-    if (root >= ROOTS)
-        return refuse(NUMBER);
+    if (root >= VEK_ROOTS)
+        return refuse(VEK_NUMBER);
     return write_ref(&h, roots + root, 0);
 }
 
-answer c_copy(TABLES, size_t to, size_t from)
+vek_answer c_copy(VEK_TABLES, size_t to, size_t from)
 {
     SOUND_HEAP
-    if (to >= ROOTS || from >= ROOTS)
-        return refuse(NUMBER);
+    if (to >= VEK_ROOTS || from >= VEK_ROOTS)
+        return refuse(VEK_NUMBER);
     return write_ref(&h, roots + to, roots[from]);
 }
 
-answer c_load(TABLES, size_t to, size_t object, size_t slot)
+vek_answer c_load(VEK_TABLES, size_t to, size_t object, size_t slot)
 {
     SOUND_HEAP
-    if (to >= ROOTS || object >= ROOTS || slot >= SLOTS)
-        return refuse(NUMBER);
+    if (to >= VEK_ROOTS || object >= VEK_ROOTS || slot >= VEK_SLOTS)
+        return refuse(VEK_NUMBER);
     if (!roots[object])
-        return refuse(EMPTY);
+        return refuse(VEK_EMPTY);
     if (kind[roots[object] - 1] != 1)
-        return refuse(KIND);
-    return write_ref(&h, roots + to, slots[SLOTS * (roots[object] - 1) + slot]);
+        return refuse(VEK_KIND);
+    return write_ref(&h, roots + to, slots[VEK_SLOTS * (roots[object] - 1) + slot]);
 }
 
-answer c_store(TABLES, size_t object, size_t slot, size_t from)
+vek_answer c_store(VEK_TABLES, size_t object, size_t slot, size_t from)
 {
     SOUND_HEAP
-    if (object >= ROOTS || slot >= SLOTS || from >= ROOTS)
-        return refuse(NUMBER);
+    if (object >= VEK_ROOTS || slot >= VEK_SLOTS || from >= VEK_ROOTS)
+        return refuse(VEK_NUMBER);
     if (!roots[object])
-        return refuse(EMPTY);
+        return refuse(VEK_EMPTY);
     if (kind[roots[object] - 1] != 1)
-        return refuse(KIND);
-    return write_ref(&h, slots + SLOTS * (roots[object] - 1) + slot, roots[from]);
+        return refuse(VEK_KIND);
+    return write_ref(&h, slots + VEK_SLOTS * (roots[object] - 1) + slot, roots[from]);
 }
 
-answer c_collect(TABLES)
+vek_answer c_collect(VEK_TABLES)
 {
     SOUND_HEAP
     return collect(&h);
 }
 
-answer c_start(TABLES, size_t root)
+vek_answer c_start(VEK_TABLES, size_t root)
 {
     SOUND_HEAP
-    if (root >= ROOTS)
-        return refuse(NUMBER);
+    if (root >= VEK_ROOTS)
+        return refuse(VEK_NUMBER);
     if (roots[root])
-        return refuse(TAKEN);
+        return refuse(VEK_TAKEN);
     if (control[1])
-        return refuse(BUSY);
+        return refuse(VEK_BUSY);
     if (!control[0])
-        return refuse(NONE);
+        return refuse(VEK_NONE);
     count[queue[0] - 1]++;
     roots[root] = queue[0];
     control[1] = root + 1;
     return refuse(0);
 }
 
-answer c_finish(TABLES)
+vek_answer c_finish(VEK_TABLES)
 {
     SOUND_HEAP
     if (!control[1])
-        return refuse(IDLE);
+        return refuse(VEK_IDLE);
     size_t root = control[1] - 1, len = control[0];
     unsigned head = queue[0], old = roots[root];
     memmove(queue, queue + 1, (len - 1) * sizeof *queue);
@@ -351,5 +351,5 @@ answer c_finish(TABLES)
     unsigned queued = control[0];
     unsigned freed = release(&h, old);
     freed += release(&h, head);
-    return (answer){0, freed, control[0] - queued, 0};
+    return (vek_answer){0, freed, control[0] - queued, 0};
 }

@@ -47,8 +47,7 @@ def inclusive(out, pattern):
 
 
 def main():
-    if not ARCHIVE.exists():
-        subprocess.run(["rt", "staticlib", "heap_c"], cwd=TOP, check=True, stdout=subprocess.DEVNULL)
+    subprocess.run(["make", ARCHIVE.relative_to(TOP)], cwd=TOP, check=True, stdout=subprocess.DEVNULL)
     with tempfile.TemporaryDirectory() as name:
         folder = pathlib.Path(name)
         program = folder / "bench"

@@ -4,6 +4,6 @@ pub mod Tallying
 pub mod Queueing
 pub mod Slots
 pub mod Cells
+pub mod Scratch
 pub mod Order
 pub mod Whole
-pub mod Scratch

@@ -1,63 +1,99 @@
 -- tallyOk as the code finds it, test after test: t1, t2 and t3 are the tally after the queue, the roots and the slots.
 -- Assumes nothing.
-use Prim.Native.Nat.{ℕ, _+_}
+use Prim.Native.Nat.{ℕ, suc, _+_, _-_, _<_}
 use native.Mathlib.Omega.{arith}
 use mathlib.Core.List.{List}
-use mathlib.Core.Bool.{true, false, _&&_, and-true}
+use mathlib.Core.Bool.{Bool, true, false, _&&_, and-true}
 use mathlib.Core.Path.{_≡_, sym, ap, _∙_}
-use lib.ListN.{length}
+use lib.ListN.{length, getD, take, drop}
+use lib.Seq.{getD-drop}
 use borrow.Author.Tests.{eqb-true}
-use Rattle.rules.specs.Lists.{all, below, distinct}
+use Rattle.rules.specs.Lists.{all, below, distinct, occ}
 use Rattle.rules.specs.Lists as Lists
-use Rattle.laws.specs.Lists.Tests.{every-not, clash, and-join, and-left, and-right}
-use Rattle.laws.specs.Sound.Tally.{tallied, dangling, Room, tallied-length, room-after}
-use Rattle.soundness.specs.Tests.{names, shapeAt, slotsAt, countAt, tallyOk, Scratch}
+use Rattle.laws.specs.Lists.Tests.{same, every-not, clash, and-join, and-left, and-right, below-all, below-at}
+use Rattle.laws.specs.Sound.Tally.{counters, Tallied, Room, dangling, room-after, less-room}
+use Rattle.soundness.specs.Tests.{names, shapeOk, countOk, shapeAt, slotsAt, countAt, tallyOk, Scratch}
+use Rattle.soundness.proofs.Scratch.{part-rest}
+
+-- a tally without its entry 0
+abbrev cellsOf : List ℕ → List ℕ
+cellsOf tally = take (length tally - 1) (drop 1 tally)
+
+cell-entry : (tally : List ℕ) (c : ℕ) → getD (cellsOf tally) c 0 ≡ getD tally (suc c) 0
+cell-entry tally c =
+    let e : 1 + c ≡ suc c = omega arith in
+    ap (λ (l : List ℕ). getD l c 0) (part-rest tally 1) ∙ getD-drop 1 tally c 0 ∙ ap (λ (n : ℕ). getD tally n 0) e
+
+-- tests that agree on each number below n
+below-same : (n : ℕ) (p q : ℕ → Bool) → ((c : ℕ) → c < n → p c ≡ q c) → below n p ≡ below n q
+below-same n p q e =
+    same _ _ (λ t. below-all n q (λ c l. sym (e c l) ∙ below-at n p t c l)) (λ t. below-all n p (λ c l. e c l ∙ below-at n q t c l))
 
 module _ (zeros kind flags count slots roots entries : List ℕ) (s : Scratch zeros kind flags count slots roots entries) where
-  queue-here : (distinct entries && all (names (length zeros)) entries) ≡ (distinct entries && all (names (length kind)) entries)
-  queue-here = ap (λ (n : ℕ). distinct entries && all (names n) entries) (s .tally-size)
+  queue-here : (distinct entries && all (names (counters zeros)) entries) ≡ (distinct entries && all (names (length kind)) entries)
+  queue-here =
+      let many0 : counters zeros ≡ length kind = omega (arith, s .tally-size) in
+      ap (λ (n : ℕ). distinct entries && all (names n) entries) many0
 
-  pub bad-queue : (distinct entries && all (names (length zeros)) entries) ≡ false → tallyOk zeros kind flags count slots roots entries ≡ false
+  pub bad-queue : (distinct entries && all (names (counters zeros)) entries) ≡ false → tallyOk kind flags count slots roots entries ≡ false
   unfolding tallyOk
   bad-queue e = every-not _ (λ t. clash (queue-here ∙ and-join (t .0) (t .1 .0)) e)
 
-  module _ (t1 : List ℕ) (e1 : t1 ≡ tallied zeros entries) where
-    pub long1 : length t1 ≡ length kind
-    long1 = ap length e1 ∙ tallied-length zeros entries ∙ s .tally-size
+  module _ (t1 : List ℕ) (e1 : Tallied zeros entries t1) where
+    long1 : length t1 ≡ suc (length kind)
+    long1 = e1 .same ∙ s .tally-size
 
-    pub bad-shapes : below (length kind) (shapeAt kind flags t1) ≡ false → tallyOk zeros kind flags count slots roots entries ≡ false
+    at1 : (c : ℕ) → c < length kind → getD t1 (suc c) 0 ≡ occ (suc c) entries
+    at1 c l = omega (arith, e1 .at (suc c) (omega arith) (omega (arith, s .tally-size)), s .clear (suc c))
+
+    shapes : below (length kind) (shapeAt kind flags (cellsOf t1)) ≡ below (length kind) (λ c. shapeOk (getD kind c 0) (getD flags c 0) (occ (suc c) entries))
+    shapes = below-same _ _ _ (λ c l. ap (shapeOk (getD kind c 0) (getD flags c 0)) (cell-entry t1 c ∙ at1 c l))
+
+    pub bad-shapes : below (length kind) (shapeAt kind flags (cellsOf t1)) ≡ false → tallyOk kind flags count slots roots entries ≡ false
     unfolding tallyOk
-    bad-shapes e = every-not _ (λ t. clash (t .1 .1 .0) (ap (λ (l : List ℕ). below (length kind) (shapeAt kind flags l)) (sym e1) ∙ e))
+    bad-shapes e = every-not _ (λ t. clash (t .1 .1 .0) (sym shapes ∙ e))
 
     -- room for the roots and the slots: at most one for each entry of the queue so far
-    pub room1 : Room t1 (length roots + length slots)
-    room1 = room-after t1 zeros entries (length roots + length slots) e1 (λ c. omega (arith, s .clear c, s .few, s .most, s .roots-size, s .slots-size))
+    room1 : Room t1 (length roots + length slots)
+    room1 =
+        room-after (length roots + length slots) e1
+        (record { some = omega (arith, s .tally-size); fits = λ x. omega (arith, s .clear x, s .few, s .most, s .roots-size, s .slots-size) })
 
-    pub bad-roots : (dangling (length t1) roots ≡ 0 → ⊥) → tallyOk zeros kind flags count slots roots entries ≡ false
+    pub room-roots : Room t1 (length roots)
+    room-roots = less-room (length roots + length slots) (length roots) (omega arith) room1
+
+    roots-here : dangling (counters t1) roots ≡ dangling (length kind) roots
+    roots-here =
+        let many1 : counters t1 ≡ length kind = omega (arith, long1) in
+        ap (λ (n : ℕ). dangling n roots) many1
+
+    pub bad-roots : (dangling (counters t1) roots ≡ 0 → ⊥) → tallyOk kind flags count slots roots entries ≡ false
     unfolding tallyOk
-    bad-roots n = every-not _ (λ t. n (ap (λ (k : ℕ). dangling k roots) long1 ∙ eqb-true (dangling (length kind) roots) 0 (t .1 .1 .1 .0)))
+    bad-roots n = every-not _ (λ t. n (roots-here ∙ eqb-true (dangling (length kind) roots) 0 (t .1 .1 .1 .0)))
 
-    module _ (t2 : List ℕ) (e2 : t2 ≡ tallied t1 roots) where
-      pub long2 : length t2 ≡ length kind
-      long2 = ap length e2 ∙ tallied-length t1 roots ∙ long1
+    module _ (t2 : List ℕ) (e2 : Tallied t1 roots t2) where
+      pub room-slots : Room t2 (length slots)
+      room-slots = room-after (length slots) e2 room1
 
-      pub room2 : Room t2 (length slots)
-      room2 = room-after t2 t1 roots (length slots) e2 room1
+      slots-here : below (length kind) (slotsAt (counters t2) kind slots) ≡ below (length kind) (slotsAt (length kind) kind slots)
+      slots-here =
+          let many2 : counters t2 ≡ length kind = omega (arith, e2 .same, long1) in
+          ap (λ (n : ℕ). below (length kind) (slotsAt n kind slots)) many2
 
-      pub bad-slots : below (length kind) (slotsAt (length t2) kind slots) ≡ false → tallyOk zeros kind flags count slots roots entries ≡ false
+      pub bad-slots : below (length kind) (slotsAt (counters t2) kind slots) ≡ false → tallyOk kind flags count slots roots entries ≡ false
       unfolding tallyOk
-      bad-slots e = every-not _ (λ t. clash (t .1 .1 .1 .1 .0) (ap (λ (n : ℕ). below (length kind) (slotsAt n kind slots)) (sym long2) ∙ e))
+      bad-slots e = every-not _ (λ t. clash (t .1 .1 .1 .1 .0) (sym slots-here ∙ e))
 
-      pub by-counts : (t3 : List ℕ) → t3 ≡ tallied t2 slots
-          → (distinct entries && all (names (length zeros)) entries) ≡ true → below (length kind) (shapeAt kind flags t1) ≡ true
-          → dangling (length t1) roots ≡ 0 → below (length kind) (slotsAt (length t2) kind slots) ≡ true
-          → tallyOk zeros kind flags count slots roots entries ≡ below (length kind) (countAt kind count t3)
+      pub by-counts : (t3 : List ℕ) → Tallied t2 slots t3
+          → (distinct entries && all (names (counters zeros)) entries) ≡ true → below (length kind) (shapeAt kind flags (cellsOf t1)) ≡ true
+          → dangling (counters t1) roots ≡ 0 → below (length kind) (slotsAt (counters t2) kind slots) ≡ true
+          → tallyOk kind flags count slots roots entries ≡ below (length kind) (countAt kind count (cellsOf t3))
       unfolding tallyOk Lists.every
       by-counts t3 e3 q sh r sl =
-          let q′ : (distinct entries && all (names (length kind)) entries) ≡ true = sym queue-here ∙ q in
-          let once : distinct entries ≡ true = and-left (distinct entries) (all (names (length kind)) entries) q′ in
-          let named : all (names (length kind)) entries ≡ true = and-right (distinct entries) (all (names (length kind)) entries) q′ in
-          let shapes : below (length kind) (shapeAt kind flags (tallied zeros entries)) ≡ true = ap (λ (l : List ℕ). below (length kind) (shapeAt kind flags l)) (sym e1) ∙ sh in
-          let held : dangling (length kind) roots ≡ 0 = ap (λ (k : ℕ). dangling k roots) (sym long1) ∙ r in
-          let full : below (length kind) (slotsAt (length kind) kind slots) ≡ true = ap (λ (n : ℕ). below (length kind) (slotsAt n kind slots)) (sym long2) ∙ sl in
-          rw (once, named, shapes, held, full, e3, e2, e1) (and-true _)
+          let both : (distinct entries && all (names (length kind)) entries) ≡ true = sym queue-here ∙ q in
+          let once : distinct entries ≡ true = and-left (distinct entries) (all (names (length kind)) entries) both in
+          let named : all (names (length kind)) entries ≡ true = and-right (distinct entries) (all (names (length kind)) entries) both in
+          let at3 : (c : ℕ) → c < length kind → getD t3 (suc c) 0 ≡ occ (suc c) entries + occ (suc c) roots + occ (suc c) slots
+          = λ c l. omega (arith, at1 c l, long1, e2 .same, e2 .at (suc c) (omega arith) (omega (arith, long1)), e3 .at (suc c) (omega arith) (omega (arith, long1, e2 .same))) in
+          rw (once, named, sym shapes ∙ sh, sym roots-here ∙ r, sym slots-here ∙ sl)
+          (and-true _ ∙ below-same _ _ _ (λ c l. ap (countOk (getD kind c 0) (getD count c 0)) (sym (cell-entry t3 c ∙ at3 c l))))

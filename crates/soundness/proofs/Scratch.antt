@@ -1,6 +1,6 @@
 -- The scratch tally: the first n of k zeros; and the part of the queue behind its length.
 -- Assumes nothing.
-use Prim.Native.Nat.{ℕ, zero, suc, _≤_, _-_}
+use Prim.Native.Nat.{ℕ, zero, suc, _+_, _≤_, _<_, _-_}
 use native.Mathlib.Omega.{arith}
 use mathlib.Core.List.{List}
 use mathlib.Core.Path.{_≡_, refl}
@@ -14,14 +14,14 @@ use Rattle.soundness.specs.Tests.{Scratch}
 pub clear-length : (n k : ℕ) → n ≤ k → length (take n (replicate {A = ℕ} k 0)) ≡ n
 clear-length n k l = length-take-le n (replicate {A = ℕ} k 0) (omega (arith, length-replicate {A = ℕ} k 0))
 
-pub clear-at : (n k c : ℕ) → getD (take n (replicate {A = ℕ} k 0)) c 0 ≡ 0
-clear-at zero k c = refl
-clear-at (suc n) zero c = refl
+clear-at : (n k x : ℕ) → getD (take n (replicate {A = ℕ} k 0)) x 0 ≡ 0
+clear-at zero k x = refl
+clear-at (suc n) zero x = refl
 clear-at (suc n) (suc k) zero = refl
-clear-at (suc n) (suc k) (suc c) = clear-at n k c
+clear-at (suc n) (suc k) (suc x) = clear-at n k x
 
-pub scratch : (h : Heap) (k : ℕ) → Sized h → cells h ≤ k → queued h ≤ cells h
-    → Scratch (take (cells h) (replicate k 0)) (h .kind) (h .flags) (h .count) (h .slots) (h .roots) (entries h)
+pub scratch : (h : Heap) (k : ℕ) → Sized h → 1024 < k → queued h ≤ cells h
+    → Scratch (take (cells h + 1) (replicate k 0)) (h .kind) (h .flags) (h .count) (h .slots) (h .roots) (entries h)
 scratch h k z l few =
     record {
       most = z .most;
@@ -30,8 +30,8 @@ scratch h k z l few =
       slots-size = z .slots;
       roots-size = z .roots;
       few = omega (arith, entries-length h z few);
-      tally-size = clear-length (cells h) k l;
-      clear = clear-at (cells h) k;
+      tally-size = omega (arith, clear-length (cells h + 1) k (omega (arith, z .most)));
+      clear = clear-at (cells h + 1) k;
     }
 
 -- the part of a list from n on

@@ -1,94 +1,70 @@
--- The loop that tallies a table of references: its invariant, at the start, after a turn, and at the end.
+-- The loops that tally a table of references, one or four in a turn: their invariant, at the start, after a turn, and at the end.
 -- Assumes nothing.
-use Prim.Native.Nat.{ℕ, _≤_, _<_, _+_}
+use Prim.Native.Nat.{ℕ, _≤_, _<_, _+_, _-_}
 use native.Mathlib.Omega.{arith}
 use mathlib.Core.List.{List, [], _∷_}
-use mathlib.Core.Path.{_≡_, refl, sym, _∙_, ap}
-use lib.ListN.{length, getD, take}
-use lib.Bits.{bitOr}
+use mathlib.Core.Bool.{true}
+use mathlib.Core.Path.{_≡_, refl, ap}
+use lib.Dec.{eqb}
+use lib.ListN.{length, getD, take, drop, length-drop}
 use lib.Seq.{length-take-le, take-all}
-use Rattle.laws.specs.Sound.Tally.{counted, tallied, dangling, Room, tallied-next, counted-length, counted-empty, counted-room, dangling-next, dangling-length, dangling-under, room-after}
+use Rattle.rules.specs.Lists.{all}
+use Rattle.laws.specs.Lists.Tables.{drop-next}
+use Rattle.laws.specs.Sound.Tally.{Room, counters, dangling, tallied-none, tallied-zeros, tallied-part, room-after, less-room, dangling-zeros, dangling-length, dangling-part}
 use Rattle.laws.specs.Sound.Tally as Tally
-use Rattle.soundness.proofs.Cells.{or-none}
+use Rattle.soundness.specs.Tests.{Tallies}
 
 -- `whole` is the tally before, `first` what was lost before; `tally` and `lost` are what the first i entries make of them
 pub record Tallying (whole table tally : List ℕ) (first lost i : ℕ) : Type 0 where
   pub bound : i ≤ length table
-  pub same : length tally ≡ length whole
-  pub is : tally ≡ tallied whole (take i table)
-  pub gone : lost ≡ first + dangling (length whole) (take i table)
+  pub is : Tallies whole (take i table) tally first lost
 
 pub begin : (whole table : List ℕ) (first : ℕ) → Tallying whole table whole first first 0
-unfolding Tally.tallied Tally.dangling
-begin whole table first = record { bound = omega arith; same = refl; is = refl; gone = omega arith }
+unfolding Tally.dangling
+begin whole table first = record { bound = omega arith; is = (omega arith, tallied-none whole) }
+
+-- the entry at i, as a part of the table
+one-part : (table : List ℕ) (i : ℕ) → i < length table → getD table i 0 ∷ [] ≡ take (i + 1 - i) (drop i table)
+one-part table i m =
+    let e : i + 1 - i ≡ 1 = omega arith in
+    rw (e, drop-next table i m) refl
+
+-- the four entries from i on
+pub four-long : (table : List ℕ) (i : ℕ) → i + 4 ≤ length table → length (take (i + 4 - i) (drop i table)) ≡ 4
+four-long table i m = omega (arith, length-take-le (i + 4 - i) (drop i table) (omega (arith, length-drop i table)))
 
 module _ {whole table tally : List ℕ} {first lost i : ℕ} (v : Tallying whole table tally first lost i) where
-  few : lost ≤ first + i
-  few = omega (arith, v .gone, dangling-length (length whole) (take i table), length-take-le i table (v .bound))
+  -- where there was room for n references, there is still room for k after the first i, in the tally and in the number of lost ones
+  pub room-here : (n k : ℕ) → Room whole n → first + n < 65536 → i + k ≤ n → Room tally k × (lost + k < 65536)
+  room-here n k r f m =
+      let long = length-take-le i table (v .bound) in (
+        room-after k (v .is .1) (less-room n _ (omega arith) r),
+        omega (arith, v .is .0, dangling-length (counters whole) (take i table)),
+      )
 
-  -- there is room for the entry at i, in the tally and in the number of lost ones
-  pub room-one : Room whole (length table) → first + length table < 65536 → i < length table → Room tally 1 × (lost < 65536)
-  room-one r f m = (
-    room-after tally whole (take i table) 1 (v .is) (λ c. omega (arith, r c, length-take-le i table (v .bound))),
-    omega (arith, few),
-  )
-
-  -- and for the entries at i and i + 1
-  pub room-two : Room whole (length table) → first + length table < 65536 → i + 1 < length table → Room tally 2 × (lost + 1 < 65536)
-  room-two r f m = (
-    room-after tally whole (take i table) 2 (v .is) (λ c. omega (arith, r c, length-take-le i table (v .bound))),
-    omega (arith, few),
-  )
-
-  pub turn : (r : ℕ) (next : List ℕ) → i < length table → r ≡ lost + dangling (length tally) (getD table i 0 ∷ []) → next ≡ counted tally (getD table i 0)
-      → Tallying whole table next first r (i + 1)
-  turn r next m e f =
+  -- the entries from i to e are tallied
+  pub turn : (e r : ℕ) (next : List ℕ) → i ≤ e → e ≤ length table → Tallies tally (take (e - i) (drop i table)) next lost r → Tallying whole table next first r e
+  turn e r next h m w =
       record {
-        bound = omega arith;
-        same = ap length f ∙ counted-length tally (getD table i 0) ∙ v .same;
-        is = f ∙ ap (λ (t : List ℕ). counted t (getD table i 0)) (v .is) ∙ sym (tallied-next whole table i m);
-        gone = omega (arith, e, v .gone, ap (λ (n : ℕ). dangling n (getD table i 0 ∷ [])) (v .same), dangling-next (length whole) table i m);
+        bound = m;
+        is = (
+          omega (
+            arith,
+            w .0,
+            v .is .0,
+            ap (λ (n : ℕ). dangling (n - 1) (take (e - i) (drop i table))) (v .is .1 .same),
+            dangling-part (counters whole) table i e h,
+          ),
+          tallied-part table i e h (v .is .1) (w .1),
+        );
       }
 
-  pub done : length table ≤ i → (lost ≡ first + dangling (length whole) table) × (tally ≡ tallied whole table)
-  done m = (
-    v .gone ∙ ap (λ (l : List ℕ). first + dangling (length whole) l) (take-all i table m),
-    v .is ∙ ap (tallied whole) (take-all i table m),
-  )
+  pub turn-one : (r : ℕ) (next : List ℕ) → i < length table → Tallies tally (getD table i 0 ∷ []) next lost r → Tallying whole table next first r (i + 1)
+  turn-one r next m w = turn (i + 1) r next (omega arith) (omega arith) (rw (← one-part table i m) w)
 
--- ---- two entries at a time
+  pub done : length table ≤ i → Tallies whole table tally first lost
+  done m = rw (take-all i table m) at (v .is)
 
--- what two entries a and b make of a tally and of the number of lost ones
-abbrev pub Two : List ℕ → ℕ → ℕ → ℕ → ℕ → List ℕ → Type 0
-Two tally a b lost r after = (r ≡ lost + (dangling (length tally) (a ∷ []) + dangling (length tally) (b ∷ []))) × (after ≡ counted (counted tally a) b)
-
-pub two-empty : (tally : List ℕ) (a b lost : ℕ) → bitOr a b ≡ 0 → Two tally a b lost lost tally
-two-empty tally a b lost e =
-    let z = or-none a b e in (
-      omega (arith, dangling-under (length tally) a (omega arith), dangling-under (length tally) b (omega arith)),
-      counted-empty tally a (omega arith) ∙ counted-empty (counted tally a) b (omega arith),
-    )
-
-module _ (tally next : List ℕ) (a lost more : ℕ) (e : more ≡ lost + dangling (length tally) (a ∷ [])) (f : next ≡ counted tally a) where
-  same-size : length next ≡ length tally
-  same-size = ap length f ∙ counted-length tally a
-
-  -- there is room for the second, after the first
-  pub two-room : Room tally 2 → lost + 1 < 65536 → Room next 1 × (more < 65536)
-  two-room r m = (rw f (counted-room tally a 1 (λ c. omega (arith, r c))), omega (arith, e, dangling-length (length tally) (a ∷ [])))
-
-  pub two-counted : (after : List ℕ) (b r : ℕ) → r ≡ more + dangling (length next) (b ∷ []) → after ≡ counted next b → Two tally a b lost r after
-  two-counted after b r g h = (
-    omega (arith, e, g, ap (λ (n : ℕ). dangling n (b ∷ [])) same-size),
-    h ∙ ap (λ (t : List ℕ). counted t b) f,
-  )
-
-pub turn-two : {whole table tally : List ℕ} {first lost i : ℕ} → Tallying whole table tally first lost i → (r : ℕ) (next : List ℕ) → i + 1 < length table
-    → Two tally (getD table i 0) (getD table (i + 1) 0) lost r next → Tallying whole table next first r (i + 2)
-turn-two {whole = whole} {table = table} {tally = tally} {first = first} {lost = lost} {i = i} v r next m w =
-    let one : Tallying whole table (counted tally (getD table i 0)) first (lost + dangling (length tally) (getD table i 0 ∷ [])) (i + 1)
-    = turn v _ _ (omega arith) refl refl in
-    let k : i + 2 ≡ i + 1 + 1 = omega arith in
-    rw k (turn one r next m
-    (omega (arith, w .0, ap (λ (n : ℕ). dangling n (getD table (i + 1) 0 ∷ [])) (counted-length tally (getD table i 0))))
-    (w .1))
+-- four empty references may be skipped
+pub skipped : (tally l : List ℕ) (lost : ℕ) → all (eqb 0) l ≡ true → Tallies tally l tally lost lost
+skipped tally l lost z = (omega (arith, dangling-zeros (counters tally) l z), tallied-zeros tally l z)

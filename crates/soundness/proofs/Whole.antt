@@ -22,7 +22,7 @@ use Rattle.laws.specs.Lists.Occ.{occ-nil, occ-at, occ-find, occ-none, distinct-
 use Rattle.laws.specs.Sound.But.{SoundBut, named}
 use Rattle.laws.specs.Sound.Reflect.{CellRules, cell-rules, cell-ok, flags-of, running-of, sound-of, of-sound}
 use Rattle.laws.specs.Sound.Facts.{ready-facts, facts-ready}
-use Rattle.laws.specs.Sound.Tally.{tallied, dangling, tallied-at, tallied-length, dangling-none, none-dangling}
+use Rattle.laws.specs.Sound.Tally.{dangling, dangling-none, none-dangling}
 use Rattle.soundness.specs.Tests.{shapeOk, slotsOk, countOk, tallyOk}
 use Rattle.soundness.proofs.Queueing.{names-of, names-ok}
 use Rattle.soundness.proofs.Slots.{of-object, of-other}
@@ -68,24 +68,9 @@ slots-low n k s t i m =
     (λ e. dangling-none n s (eqb-true (dangling n s) 0 (sym (of-object n k s e) ∙ t)) i m)
     (λ o. omega (arith, slots-empty n k s t o i m))
 
--- ---- the tally of a heap
+-- ---- the tests of a heap
 
-module _ (h : Heap) (z : Sized h) (zeros : List ℕ) (long : length zeros ≡ cells h) (clear : (c : ℕ) → getD zeros c 0 ≡ 0) where
-  tally-queue : (c : ℕ) → c < cells h → getD (tallied zeros (entries h)) c 0 ≡ occ (suc c) (entries h)
-  tally-queue c l = omega (arith, tallied-at zeros (entries h) c (omega arith), clear c)
-
-  tally-whole : (c : ℕ) → c < cells h
-      → getD (tallied (tallied (tallied zeros (entries h)) (h .roots)) (h .slots)) c 0 ≡ occ (suc c) (h .roots) + occ (suc c) (h .slots) + occ (suc c) (entries h)
-  tally-whole c l =
-      let a = tallied-length zeros (entries h) in
-      let b = tallied-length (tallied zeros (entries h)) (h .roots) in
-      omega (
-        arith,
-        tally-queue c l,
-        tallied-at (tallied zeros (entries h)) (h .roots) c (omega arith),
-        tallied-at (tallied (tallied zeros (entries h)) (h .roots)) (h .slots) c (omega arith),
-      )
-
+module _ (h : Heap) (z : Sized h) where
   -- ---- from the rules to the tests
 
   module _ (s : SoundBut h []) where
@@ -124,7 +109,7 @@ module _ (h : Heap) (z : Sized h) (zeros : List ℕ) (long : length zeros ≡ ce
         empty o j b =
             by-cases (ℕ-discrete (kindOf h c) 0) (λ e. s .shaped .freeSlots c j b e) (λ n. s .shaped .plainSlots c j b (omega arith))
 
-    sound-tally : tallyOk zeros (h .kind) (h .flags) (h .count) (h .slots) (h .roots) (entries h) ≡ true
+    sound-tally : tallyOk (h .kind) (h .flags) (h .count) (h .slots) (h .roots) (entries h) ≡ true
     unfolding tallyOk
     sound-tally =
         pass-every _ (
@@ -134,15 +119,13 @@ module _ (h : Heap) (z : Sized h) (zeros : List ℕ) (long : length zeros ≡ ce
                 (by-cases (ℕ-discrete (getD (entries h) i 0) 0) (λ e. absurd (omega (arith, s .queue .named, occ-at 0 (entries h) i m e))) (λ n. omega arith))
                 (low (entries h) (λ c o. omega (arith, s .queue .object c o)) i m)),
             (
-              below-all _ _ (λ c l. shape-ok _ _ _ (plain-rules c) (λ o.
-                  let q : 1 ≤ occ (suc c) (entries h) = omega (arith, tally-queue c l) in
-                  (s .queue .object c q, s .queue .wanting c q))),
+              below-all _ _ (λ c l. shape-ok _ _ _ (plain-rules c) (λ o. (s .queue .object c o, s .queue .wanting c o))),
               (
                 eq-eqb _ _ (none-dangling (cells h) (h .roots) (low (h .roots) (λ c o. named h [] s c (omega arith)))),
                 (
                   below-all _ _ slots-right,
                   (
-                    below-all _ _ (λ c l. count-ok _ _ _ (omega (arith, s .counted c, occ-nil (suc c), tally-whole c l)) (s .freeCount c) (s .positive c)),
+                    below-all _ _ (λ c l. count-ok _ _ _ (omega (arith, s .counted c, occ-nil (suc c))) (s .freeCount c) (s .positive c)),
                     tt,
                   ),
                 ),
@@ -154,7 +137,7 @@ module _ (h : Heap) (z : Sized h) (zeros : List ℕ) (long : length zeros ≡ ce
   -- ---- from the tests to the rules
 
   module _ (few : queued h ≤ cells h) (runs : runningOk (running h) (queued h) ≡ true) (rest : all (eqb 0) (drop (queued h) (h .queue)) ≡ true)
-      (p : tallyOk zeros (h .kind) (h .flags) (h .count) (h .slots) (h .roots) (entries h) ≡ true) where
+      (p : tallyOk (h .kind) (h .flags) (h .count) (h .slots) (h .roots) (entries h) ≡ true) where
     once : (x : ℕ) → occ x (entries h) ≤ 1
     unfolding tallyOk
     once = distinct-once (entries h) (every-pass _ p .0)
@@ -165,9 +148,7 @@ module _ (h : Heap) (z : Sized h) (zeros : List ℕ) (long : length zeros ≡ ce
 
     shape : (c : ℕ) → c < cells h → CellRules (kindOf h c) (flagsOf h c) 0 [] × (1 ≤ occ (suc c) (entries h) → (kindOf h c ≡ 1) × (flagsOf h c ≡ 1))
     unfolding tallyOk
-    shape c l =
-        let r = shape-of (kindOf h c) (flagsOf h c) (getD (tallied zeros (entries h)) c 0) (below-at _ _ (every-pass _ p .1 .1 .0) c l) in
-        (r .0, λ o. r .1 (omega (arith, tally-queue c l)))
+    shape c l = shape-of (kindOf h c) (flagsOf h c) (occ (suc c) (entries h)) (below-at _ _ (every-pass _ p .1 .1 .0) c l)
 
     root-low : (i : ℕ) → i < length (h .roots) → getD (h .roots) i 0 ≤ cells h
     unfolding tallyOk
@@ -178,11 +159,9 @@ module _ (h : Heap) (z : Sized h) (zeros : List ℕ) (long : length zeros ≡ ce
     slots-at c l = below-at _ _ (every-pass _ p .1 .1 .1 .1 .0) c l
 
     count : (c : ℕ) → c < cells h
-        → (countOf h c ≡ occ (suc c) (h .roots) + occ (suc c) (h .slots) + occ (suc c) (entries h)) × (kindOf h c ≡ 0 → countOf h c ≡ 0) × (1 ≤ kindOf h c → 1 ≤ countOf h c)
+        → (countOf h c ≡ occ (suc c) (entries h) + occ (suc c) (h .roots) + occ (suc c) (h .slots)) × (kindOf h c ≡ 0 → countOf h c ≡ 0) × (1 ≤ kindOf h c → 1 ≤ countOf h c)
     unfolding tallyOk
-    count c l =
-        let r = count-of (kindOf h c) (countOf h c) (getD (tallied (tallied (tallied zeros (entries h)) (h .roots)) (h .slots)) c 0) (below-at _ _ (every-pass _ p .1 .1 .1 .1 .1 .0) c l) in
-        (r .0 ∙ tally-whole c l, r .1, r .2)
+    count c l = count-of (kindOf h c) (countOf h c) (occ (suc c) (entries h) + occ (suc c) (h .roots) + occ (suc c) (h .slots)) (below-at _ _ (every-pass _ p .1 .1 .1 .1 .1 .0) c l)
 
     -- beyond the tables all is 0
     rules : (c : ℕ) → CellRules (kindOf h c) (flagsOf h c) 0 []
@@ -292,7 +271,7 @@ module _ (h : Heap) (z : Sized h) (zeros : List ℕ) (long : length zeros ≡ ce
         }
 
   pub by-tally : queued h ≤ cells h → runningOk (running h) (queued h) ≡ true → all (eqb 0) (drop (queued h) (h .queue)) ≡ true
-      → sound h ≡ tallyOk zeros (h .kind) (h .flags) (h .count) (h .slots) (h .roots) (entries h)
+      → sound h ≡ tallyOk (h .kind) (h .flags) (h .count) (h .slots) (h .roots) (entries h)
   by-tally few runs rest =
       same _ _
       (λ p. sound-tally (ready-facts (record { sized = z; sound = sound-of h z p })))

@@ -1,57 +1,86 @@
 // Whether the seven lent tables fit N cells, and whether the heap in them is sound.
-// Queue, roots and slots are read once, and the references in them tallied, so that no test has to search: entry c of the tally has how often cell c was met so far, which the reference c + 1 names.
+// Queue, roots and slots are read once, and the references in them tallied, so that no test has to search: entry r of the tally has how often the reference r was met so far, which names cell r - 1. Entry 0 takes the empty references, so that they need no test of their own; what it has says nothing.
 ghost use mathlib.Core.Path.{_≡_};
 ghost use mathlib.Core.Bool.{true, _&&_};
 ghost use mathlib.Core.List.{[], _∷_};
-ghost use Prim.Native.Nat.{ℕ, _+_, _*_, _<_, _≤_};
+ghost use Prim.Native.Nat.{ℕ, _+_, _*_, _%_, _<_, _≤_};
 ghost use lib.Dec.{eqb};
 ghost use lib.ListN.{length, getD};
 ghost use Rattle.rules.specs.Lists.{all, below, distinct};
 ghost use Rattle.rules.specs.Heap.{tables};
 ghost use Rattle.rules.specs.Sound.{Sized};
 ghost use Rattle.rules.specs.Check.{runningOk, fits, sound};
-ghost use Rattle.laws.specs.Sound.Tally.{counted, tallied, dangling, Room};
-ghost use Rattle.soundness.specs.Tests.{names, shapeOk, countOk, CellTallied, shapeAt, slotsAt, countAt, tallyOk, Scratch};
+ghost use Rattle.laws.specs.Sound.Tally.{counters, Tallied, Room};
+ghost use Rattle.soundness.specs.Tests.{names, shapeOk, countOk, Tallies, CellTallied, shapeAt, slotsAt, countAt, tallyOk, Scratch};
 use rules::CELLS_MAX;
 use rules::ROOTS;
 use rules::SLOTS;
 
 const OBJECT: u16 = 1;
 
-// Tallies one reference. One above N names no cell and is lost: answers how many are, with the `lost` of before, which spares the loop around it a sum for each empty slot.
+// The most entries of a tally: one for each cell, and entry 0.
+const TALLY_MAX: usize = CELLS_MAX + 1;
+
+// Tallies one reference. One above N has no entry, names no cell and is lost: answers how many are, with the `lost` of before, which spares the loops around it a sum.
 fn tally_one(tally: &mut [u16], reference: u16, lost: usize) -> usize
-    requires { ⌜ Room (now tally) 1 × (lost < 65536) ⌝ }
-    ensures { λ r. ⌜ (r ≡ lost + dangling (length (now (tally .entry))) (reference ∷ [])) × (now (tally .exit) ≡ counted (now (tally .entry)) reference) ⌝ }
+    requires { ⌜ Room (now tally) 1 × (lost + 1 < 65536) ⌝ }
+    ensures { λ r. ⌜ Tallies (now (tally .entry)) (reference ∷ []) (now (tally .exit)) lost r ⌝ }
 {
-    if reference == 0 {
-        return lost;
-    }
     let r = reference as usize;
-    if tally.len() < r {
+    if tally.len() <= r {
         return lost + 1;
     }
-    tally[r - 1] += 1;
+    tally[r] += 1;
     lost
 }
 
-// Tallies each reference; answers how many are lost, with the `before` of other tables.
+// Are four references empty? The first has a test of its own, which mostly tells a used four: the others are then loaded where they are tallied, and not before.
+fn four_empty(four: &[u16]) -> bool
+    requires { ⌜ length (now four) ≡ 4 ⌝ }
+    ensures { λ r. ⌜ r ≡ all (eqb 0) (now (four .entry)) ⌝ }
+{
+    if four[0] != 0 {
+        return false;
+    }
+    (four[1] | four[2] | four[3]) == 0
+}
+
+// Tallies four references, as `tally_one` does each; where all are empty, as most slots are, they are skipped.
+fn tally_four(tally: &mut [u16], four: &[u16], before: usize) -> usize
+    requires { ⌜ Room (now tally) 4 × (before + 4 < 65536) × (length (now four) ≡ 4) ⌝ }
+    ensures { λ r. ⌜ Tallies (now (tally .entry)) (now (four .entry)) (now (tally .exit)) before r ⌝ }
+{
+    if four_empty(four) {
+        return before;
+    }
+    let mut lost = before;
+    let mut i = 0;
+    while i < four.len() {
+        lost = tally_one(tally, four[i], lost);
+        i += 1;
+    }
+    lost
+}
+
+// Tallies the references of a table, four at a time; answers how many are lost, with the `before` of other tables.
 fn tally_all(tally: &mut [u16], references: &[u16], before: usize) -> usize
-    requires { ⌜ Room (now tally) (length (now references)) × (before + length (now references) < 65536) ⌝ }
-    ensures { λ r. ⌜ (r ≡ before + dangling (length (now (tally .entry))) (now (references .entry))) × (now (tally .exit) ≡ tallied (now (tally .entry)) (now (references .entry))) ⌝ }
+    requires { ⌜ Room (now tally) (length (now references)) × (before + length (now references) < 65536) × (length (now references) % 4 ≡ 0) ⌝ }
+    ensures { λ r. ⌜ Tallies (now (tally .entry)) (now (references .entry)) (now (tally .exit)) before r ⌝ }
 {
     let mut lost = before;
     let mut i = 0;
     while i < references.len() {
-        lost = tally_one(tally, references[i], lost);
-        i += 1;
+        let end = i + 4;
+        lost = tally_four(tally, &references[i..end], lost);
+        i = end;
     }
     lost
 }
 
 // Tallies the queue's entries in use, into a tally of zeros: does each name a cell, and none twice?
 fn tally_queue(tally: &mut [u16], entries: &[u16]) -> bool
-    requires { ⌜ ((c : ℕ) → getD (now tally) c 0 ≡ 0) ⌝ }
-    ensures { λ r. ⌜ (r ≡ (distinct (now (entries .entry)) && all (names (length (now (tally .entry)))) (now (entries .entry)))) × (r ≡ true → now (tally .exit) ≡ tallied (now (tally .entry)) (now (entries .entry))) ⌝ }
+    requires { ⌜ ((x : ℕ) → getD (now tally) x 0 ≡ 0) ⌝ }
+    ensures { λ r. ⌜ (r ≡ (distinct (now (entries .entry)) && all (names (counters (now (tally .entry)))) (now (entries .entry)))) × (r ≡ true → Tallied (now (tally .entry)) (now (entries .entry)) (now (tally .exit))) ⌝ }
 {
     let mut i = 0;
     while i < entries.len() {
@@ -59,13 +88,13 @@ fn tally_queue(tally: &mut [u16], entries: &[u16]) -> bool
         if r == 0 {
             return false;
         }
-        if tally.len() < r {
+        if tally.len() <= r {
             return false;
         }
-        if tally[r - 1] != 0 {
+        if tally[r] != 0 {
             return false;
         }
-        tally[r - 1] = 1;
+        tally[r] = 1;
         i += 1;
     }
     true
@@ -87,7 +116,7 @@ fn all_zero(table: &[u16]) -> bool
     wrong == 0
 }
 
-// Are the eight slots of a cell empty? Joined by `|` they are one load and one test; the last ones come first, since `tally_object` begins with slot 0 and would share its load.
+// Are the eight slots of a cell empty? Joined by `|` they are one load and one test; slot 3 comes first, since `tally_all` begins with slot 0 and would share its load.
 fn empty(slots: &[u16]) -> bool
     requires { ⌜ length (now slots) ≡ 8 ⌝ }
     ensures { λ r. ⌜ r ≡ all (eqb 0) (now (slots .entry)) ⌝ }
@@ -97,39 +126,13 @@ fn empty(slots: &[u16]) -> bool
     (last | first) == 0
 }
 
-// Tallies two references, as `tally_one` does each: where both are empty, as most slots are, one test skips them.
-fn tally_two(tally: &mut [u16], one: u16, other: u16, lost: usize) -> usize
-    requires { ⌜ Room (now tally) 2 × (lost + 1 < 65536) ⌝ }
-    ensures { λ r. ⌜ (r ≡ lost + (dangling (length (now (tally .entry))) (one ∷ []) + dangling (length (now (tally .entry))) (other ∷ []))) × (now (tally .exit) ≡ counted (counted (now (tally .entry)) one) other) ⌝ }
-{
-    if (one | other) == 0 {
-        return lost;
-    }
-    let more = tally_one(tally, one, lost);
-    tally_one(tally, other, more)
-}
-
-// Tallies the eight slots of an object, two at a time; answers how many are lost, with the `before` of other cells.
-fn tally_object(tally: &mut [u16], slots: &[u16], before: usize) -> usize
-    requires { ⌜ Room (now tally) (length (now slots)) × (before + length (now slots) < 65536) × (length (now slots) ≡ 8) ⌝ }
-    ensures { λ r. ⌜ (r ≡ before + dangling (length (now (tally .entry))) (now (slots .entry))) × (now (tally .exit) ≡ tallied (now (tally .entry)) (now (slots .entry))) ⌝ }
-{
-    let mut lost = before;
-    let mut i = 0;
-    while i < SLOTS {
-        lost = tally_two(tally, slots[i], slots[i + 1], lost);
-        i += 2;
-    }
-    lost
-}
-
 // Tallies the slots of a cell of this kind; answers how many faults there are, with the `wrong` of before: an object's lost references, or 1 where the slots of another cell are not empty.
 fn tally_cell(tally: &mut [u16], kind: u16, slots: &[u16], wrong: usize) -> usize
     requires { ⌜ Room (now tally) 8 × (length (now slots) ≡ 8) × (wrong + 8 < 65536) ⌝ }
     ensures { λ r. ⌜ CellTallied (now (tally .entry)) (now (tally .exit)) kind (now (slots .entry)) wrong r ⌝ }
 {
     if kind == OBJECT {
-        return tally_object(tally, slots, wrong);
+        return tally_all(tally, slots, wrong);
     }
     if empty(slots) {
         return wrong;
@@ -140,7 +143,7 @@ fn tally_cell(tally: &mut [u16], kind: u16, slots: &[u16], wrong: usize) -> usiz
 // Tallies the slots of all cells: is each as it may be?
 fn tally_slots(tally: &mut [u16], kind: &[u16], slots: &[u16]) -> bool
     requires { ⌜ (length (now kind) ≤ 1024) × (length (now slots) ≡ 8 * length (now kind)) × Room (now tally) (length (now slots)) ⌝ }
-    ensures { λ r. ⌜ (r ≡ below (length (now (kind .entry))) (slotsAt (length (now (tally .entry))) (now (kind .entry)) (now (slots .entry)))) × (r ≡ true → now (tally .exit) ≡ tallied (now (tally .entry)) (now (slots .entry))) ⌝ }
+    ensures { λ r. ⌜ (r ≡ below (length (now (kind .entry))) (slotsAt (counters (now (tally .entry))) (now (kind .entry)) (now (slots .entry)))) × (r ≡ true → Tallied (now (tally .entry)) (now (slots .entry)) (now (tally .exit))) ⌝ }
 {
     let mut wrong = 0;
     let mut c = 0;
@@ -216,7 +219,7 @@ fn running_ok(running: u16, queued: u16) -> bool
     0 < queued
 }
 
-// Are queue, roots, slots, flags and counts as they must be together? `tally` is scratch room, all 0.
+// Are queue, roots, slots, flags and counts as they must be together? `tally` is scratch room, all 0; behind its entry 0 it has an entry for each cell.
 fn tally_ok(
     tally: &mut [u16],
     kind: &[u16],
@@ -227,12 +230,12 @@ fn tally_ok(
     entries: &[u16],
 ) -> bool
     requires { ⌜ Scratch (now tally) (now kind) (now flags) (now count) (now slots) (now roots) (now entries) ⌝ }
-    ensures { λ r. ⌜ r ≡ tallyOk (now (tally .entry)) (now (kind .entry)) (now (flags .entry)) (now (count .entry)) (now (slots .entry)) (now (roots .entry)) (now (entries .entry)) ⌝ }
+    ensures { λ r. ⌜ r ≡ tallyOk (now (kind .entry)) (now (flags .entry)) (now (count .entry)) (now (slots .entry)) (now (roots .entry)) (now (entries .entry)) ⌝ }
 {
     if !tally_queue(tally, entries) {
         return false;
     }
-    if !shapes_ok(kind, flags, tally) {
+    if !shapes_ok(kind, flags, &tally[1..]) {
         return false;
     }
     if tally_all(tally, roots, 0) != 0 {
@@ -241,7 +244,7 @@ fn tally_ok(
     if !tally_slots(tally, kind, slots) {
         return false;
     }
-    counts_ok(kind, count, tally)
+    counts_ok(kind, count, &tally[1..])
 }
 
 // Do the tables' lengths fit N cells, 1 to 1,024?
@@ -306,6 +309,7 @@ pub fn sound(
         return false;
     }
     let entries = &queue[..queued];
-    let mut tally = [0u16; CELLS_MAX];
-    tally_ok(&mut tally[..n], kind, flags, count, slots, roots, entries)
+    let mut tally = [0u16; TALLY_MAX];
+    let end = n + 1;
+    tally_ok(&mut tally[..end], kind, flags, count, slots, roots, entries)
 }

@@ -1,5 +1,6 @@
 -- `soundness::sound` meets its contract. Each way out is one law of `Whole`.
 -- Assumes nothing.
+use Prim.Native.Nat.{_+_}
 use borrow.Author.Needs.{needs}
 use borrow.Author.Tests.{not-true, not-false}
 use lib.Dec.{eqb}
@@ -8,7 +9,7 @@ use lib.Seq.{length-take-le}
 use mathlib.Core.Path.{sym, _∙_, ap}
 use native.Mathlib.Omega.{arith}
 use Rattle.rules.specs.Lists.{all}
-use Rattle.soundness.proofs.Scratch.{clear-length, clear-at, scratch, part-rest, part-most}
+use Rattle.soundness.proofs.Scratch.{clear-length, scratch, part-rest, part-most}
 use Rattle.soundness.proofs.Whole.{by-tally, bad-length, bad-running, bad-rest}
 use Rattle.soundness.proofs.sound.Statement.{statement}
 use Rattle.soundness.proofs.sound.Tie as tie
@@ -55,17 +56,20 @@ returns-3 c = sym (bad-rest _ (ap (all (eqb 0)) (sym (part-rest (c .before .befo
 slice-aggregate-entries : tie.Need-slice-aggregate-entries
 slice-aggregate-entries c = sym (length-take-le _ _ (omega (arith, (c .before .before .before .before .before .before .before .before .if1 .left), (c .before .before .before .before .before .before .before .before .before .before .before .before .before .before .before .before .before .pre .queue))))
 
+add-end : tie.Need-add-end
+add-end c = search needs
+
 array-borrow-prefix-tally : tie.Need-array-borrow-prefix-tally
 array-borrow-prefix-tally c = search needs
 
 slice-aggregate-tally-ok : tie.Need-slice-aggregate-tally-ok
-slice-aggregate-tally-ok c = sym (clear-length _ 1024 (c .before .before .before .before .before .before .before .before .before .before .before .before .before .before .before .before .before .before .pre .most))
+slice-aggregate-tally-ok c = sym (clear-length (length (c .before .before .before .before .before .before .before .before .before .before .before .before .before .before .before .before .before .before .args .kind .now) + 1) 1025 (omega (arith, (c .before .before .before .before .before .before .before .before .before .before .before .before .before .before .before .before .before .before .pre .most))))
 
 tally-ok-requires : tie.Need-tally-ok-requires
-tally-ok-requires c κs = scratch _ 1024 (c .before .before .before .before .before .before .before .before .before .before .before .before .before .before .before .before .before .before .pre) (c .before .before .before .before .before .before .before .before .before .before .before .before .before .before .before .before .before .before .pre .most) (c .before .before .before .before .before .before .before .before .before .if1 .left)
+tally-ok-requires c κs = scratch _ 1025 (c .before .before .before .before .before .before .before .before .before .before .before .before .before .before .before .before .before .before .pre) (omega arith) (c .before .before .before .before .before .before .before .before .before .if1 .left)
 
 returns-4 : tie.Need-returns-4
-returns-4 c = (c .before .tally-ok .ensures) ∙ sym (by-tally _ (c .before .before .before .before .before .before .before .before .before .before .before .before .before .before .before .before .before .before .before .before .pre) _ (clear-length _ 1024 (c .before .before .before .before .before .before .before .before .before .before .before .before .before .before .before .before .before .before .before .before .pre .most)) (clear-at (length (c .before .before .before .before .before .before .before .before .before .before .before .before .before .before .before .before .before .before .before .before .args .kind .now)) 1024) (c .before .before .before .before .before .before .before .before .before .before .before .if1 .left) (sym (c .before .before .before .before .before .before .before .before .running-ok .ensures) ∙ not-false _ (c .before .before .before .before .before .before .before .if2 .left)) (ap (all (eqb 0)) (sym (part-rest (c .before .before .before .before .before .before .before .before .before .before .before .before .before .before .before .before .before .before .before .before .args .queue .now) (getD (c .before .before .before .before .before .before .before .before .before .before .before .before .before .before .before .before .before .before .before .before .args .control .now) 0 0))) ∙ sym (c .before .before .before .before .before .all-zero .ensures) ∙ not-false _ (c .before .before .before .before .if3 .left)))
+returns-4 c = (c .before .tally-ok .ensures) ∙ sym (by-tally _ (c .before .before .before .before .before .before .before .before .before .before .before .before .before .before .before .before .before .before .before .before .pre) (c .before .before .before .before .before .before .before .before .before .before .before .if1 .left) (sym (c .before .before .before .before .before .before .before .before .running-ok .ensures) ∙ not-false _ (c .before .before .before .before .before .before .before .if2 .left)) (ap (all (eqb 0)) (sym (part-rest (c .before .before .before .before .before .before .before .before .before .before .before .before .before .before .before .before .before .before .before .before .args .queue .now) (getD (c .before .before .before .before .before .before .before .before .before .before .before .before .before .before .before .before .before .before .before .before .args .control .now) 0 0))) ∙ sym (c .before .before .before .before .before .all-zero .ensures) ∙ not-false _ (c .before .before .before .before .if3 .left)))
 
 pub sound-spec : {M : Type 1} → statement M
 sound-spec =
@@ -85,6 +89,7 @@ sound-spec =
     all-zero-requires
     returns-3
     slice-aggregate-entries
+    add-end
     array-borrow-prefix-tally
     slice-aggregate-tally-ok
     tally-ok-requires

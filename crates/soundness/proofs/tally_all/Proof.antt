@@ -1,44 +1,52 @@
--- `soundness::tally_all` meets its contract. The invariant, `Tallying`: the entries passed are tallied, and the lost ones counted.
+-- `soundness::tally_all` meets its contract. The invariant is that of `tally_four`, `Tallying`, at a number of references that 4 divides.
 -- Assumes nothing.
-use Prim.Native.Nat.{_-_}
+use Prim.Native.Nat.{_-_, _%_}
 use borrow.Author.Needs.{needs}
 use lib.ListN.{length}
-use Rattle.soundness.proofs.Tallying.{Tallying, begin, room-one, turn, done}
+use mathlib.Core.Path.{_≡_, refl}
+use native.Mathlib.Omega.{arith}
+use Rattle.soundness.proofs.Tallying.{Tallying, begin, four-long, room-here, turn, done}
 use Rattle.soundness.proofs.tally_all.Statement.{statement}
 use Rattle.soundness.proofs.tally_all.Tie as tie
 
 abbrev Inv-loop : tie.InvT-loop
-Inv-loop tally₀ references before lost₀ i₀ tally lost i = Tallying tally₀ references tally before lost i
+Inv-loop tally₀ references before lost₀ i₀ tally lost i = Tallying tally₀ references tally before lost i × (i % 4 ≡ 0)
 
 abbrev μ-loop : tie.MeasureT-loop
 μ-loop tally₀ references before lost₀ i₀ tally lost i = length references - i
 
 loop-holds : tie.Need-loop-holds Inv-loop μ-loop
-loop-holds c = begin _ _ _
+loop-holds c = (begin _ _ _, refl)
 
-mul-tally-one : tie.Need-mul-tally-one Inv-loop μ-loop
-mul-tally-one c = search needs
+add-end : tie.Need-add-end Inv-loop μ-loop
+add-end c = search needs
 
-shared-slice-read-tally-one : tie.Need-shared-slice-read-tally-one Inv-loop μ-loop
-shared-slice-read-tally-one c = search needs
+mul-tally-four : tie.Need-mul-tally-four Inv-loop μ-loop
+mul-tally-four c = search needs
 
-tally-one-requires : tie.Need-tally-one-requires Inv-loop μ-loop
-tally-one-requires c κs = room-one (c .before .before .before .loop .inv) (c .before .before .before .before .before .before .pre .0) (c .before .before .before .before .before .before .pre .1) (c .before .before .loop-test .taken)
+sub-tally-four : tie.Need-sub-tally-four Inv-loop μ-loop
+sub-tally-four c = search needs
 
-add-i : tie.Need-add-i Inv-loop μ-loop
-add-i c = search needs
+part-tally-four-start : tie.Need-part-tally-four-start Inv-loop μ-loop
+part-tally-four-start c = search needs
+
+part-tally-four-end : tie.Need-part-tally-four-end Inv-loop μ-loop
+part-tally-four-end c = search needs
+
+tally-four-requires : tie.Need-tally-four-requires Inv-loop μ-loop
+tally-four-requires c κs = let r = room-here (c .before .before .before .loop .inv .0) (length (c .before .before .before .before .before .before .args .references .now)) 4 (c .before .before .before .before .before .before .pre .0) (c .before .before .before .before .before .before .pre .1) (omega arith) in (r .0, r .1, four-long (c .before .before .before .before .before .before .args .references .now) (c .before .before .before .loop .i) (omega arith))
 
 loop-less : tie.Need-loop-less Inv-loop μ-loop
 loop-less c = search needs
 
 loop-again : tie.Need-loop-again Inv-loop μ-loop
-loop-again c = turn (c .before .before .before .before .before .before .loop .inv) _ _ (c .before .before .before .before .before .loop-test .taken) ((c .before .before .tally-one .ensures .0)) ((c .before .before .tally-one .ensures .1))
+loop-again c = (turn (c .before .before .before .before .before .before .loop .inv .0) _ _ _ (omega arith) (omega arith) (c .before .before .tally-four .ensures), omega arith)
 
 same-length : tie.Need-same-length Inv-loop μ-loop
-same-length c = (c .before .loop .inv .same)
+same-length c = (c .before .loop .inv .0 .is .1 .same)
 
 returns : tie.Need-returns Inv-loop μ-loop
-returns c = done (c .before .loop .inv) (c .loop-test .left)
+returns c = done (c .before .loop .inv .0) (c .loop-test .left)
 
 pub tally-all-spec : {M : Type 1} → statement M
 tally-all-spec =
@@ -47,10 +55,12 @@ tally-all-spec =
     Inv-loop
     μ-loop
     loop-holds
-    mul-tally-one
-    shared-slice-read-tally-one
-    tally-one-requires
-    add-i
+    add-end
+    mul-tally-four
+    sub-tally-four
+    part-tally-four-start
+    part-tally-four-end
+    tally-four-requires
     loop-less
     loop-again
     same-length

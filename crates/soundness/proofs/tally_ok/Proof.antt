@@ -1,9 +1,10 @@
 -- `soundness::tally_ok` meets its contract. Each way out is one law of `Order`.
 -- Assumes nothing.
+use borrow.Author.Needs.{needs}
 use borrow.Author.Tests.{not-true, not-false}
 use mathlib.Core.Path.{sym, _∙_}
 use native.Mathlib.Omega.{arith}
-use Rattle.soundness.proofs.Order.{bad-queue, bad-shapes, bad-roots, bad-slots, by-counts, room1, room2}
+use Rattle.soundness.proofs.Order.{bad-queue, bad-shapes, bad-roots, bad-slots, by-counts, room-roots, room-slots}
 use Rattle.soundness.proofs.tally_ok.Statement.{statement}
 use Rattle.soundness.proofs.tally_ok.Tie as tie
 
@@ -16,41 +17,59 @@ same-length c = (c .before .before .before .tally-queue .kept .0)
 returns : tie.Need-returns
 returns c = sym (bad-queue _ _ _ _ _ _ _ (c .before .before .before .before .before .before .before .before .before .before .before .before .pre) (sym (c .before .before .before .tally-queue .ensures .0) ∙ not-true _ (c .if1 .taken)))
 
+sub-shapes-ok : tie.Need-sub-shapes-ok
+sub-shapes-ok c = search needs
+
+part-shapes-ok-start : tie.Need-part-shapes-ok-start
+part-shapes-ok-start c = search needs
+
+part-shapes-ok-end : tie.Need-part-shapes-ok-end
+part-shapes-ok-end c = search needs
+
 shapes-ok-requires : tie.Need-shapes-ok-requires
-shapes-ok-requires c κs = ((c .before .before .before .before .before .before .before .before .before .before .before .before .before .pre .most), (c .before .before .before .before .before .before .before .before .before .before .before .before .before .pre .flags-size), (c .before .before .before .before .tally-queue .kept .0) ∙ (c .before .before .before .before .before .before .before .before .before .before .before .before .before .pre .tally-size))
+shapes-ok-requires c κs = search needs
 
 same-length-2 : tie.Need-same-length-2
-same-length-2 c = (c .before .before .before .before .before .before .tally-queue .kept .0)
+same-length-2 c = (c .before .before .before .before .before .before .before .tally-queue .kept .0)
 
 returns-2 : tie.Need-returns-2
-returns-2 c = sym (bad-shapes _ _ _ _ _ _ _ (c .before .before .before .before .before .before .before .before .before .before .before .before .before .before .before .pre) _ ((c .before .before .before .before .before .before .tally-queue .ensures .1) (not-false _ (c .before .before .before .if1 .left))) (sym (c .before .shapes-ok .ensures) ∙ not-true _ (c .if2 .taken)))
+returns-2 c = sym (bad-shapes _ _ _ _ _ _ _ (c .before .before .before .before .before .before .before .before .before .before .before .before .before .before .before .before .pre) _ ((c .before .before .before .before .before .before .before .tally-queue .ensures .1) (not-false _ (c .before .before .before .before .if1 .left))) (sym (c .before .shapes-ok .ensures) ∙ not-true _ (c .if2 .taken)))
 
 tally-all-requires : tie.Need-tally-all-requires
-tally-all-requires c κs = (λ d. omega (arith, room1 _ _ _ _ _ _ _ (c .before .before .before .before .before .before .before .before .before .before .before .before .before .before .before .before .pre) _ ((c .before .before .before .before .before .before .before .tally-queue .ensures .1) (not-false _ (c .before .before .before .before .if1 .left))) d), omega (arith, (c .before .before .before .before .before .before .before .before .before .before .before .before .before .before .before .before .pre .roots-size)))
+tally-all-requires c κs = (room-roots _ _ _ _ _ _ _ (c .before .before .before .before .before .before .before .before .before .before .before .before .before .before .before .before .before .pre) _ ((c .before .before .before .before .before .before .before .before .tally-queue .ensures .1) (not-false _ (c .before .before .before .before .before .if1 .left))), omega (arith, (c .before .before .before .before .before .before .before .before .before .before .before .before .before .before .before .before .before .pre .roots-size)), omega (arith, (c .before .before .before .before .before .before .before .before .before .before .before .before .before .before .before .before .before .pre .roots-size)))
 
 same-length-3 : tie.Need-same-length-3
-same-length-3 c = (c .before .before .before .tally-all .kept .0) ∙ (c .before .before .before .before .before .before .before .before .before .before .before .tally-queue .kept .0)
+same-length-3 c = (c .before .before .before .tally-all .kept .0) ∙ (c .before .before .before .before .before .before .before .before .before .before .before .before .tally-queue .kept .0)
 
 returns-3 : tie.Need-returns-3
-returns-3 c = sym (bad-roots _ _ _ _ _ _ _ (c .before .before .before .before .before .before .before .before .before .before .before .before .before .before .before .before .before .before .before .before .pre) _ ((c .before .before .before .before .before .before .before .before .before .before .before .tally-queue .ensures .1) (not-false _ (c .before .before .before .before .before .before .before .before .if1 .left))) (λ e. (c .if3 .taken) (omega (arith, (c .before .before .before .tally-all .ensures .0)))))
+returns-3 c = sym (bad-roots _ _ _ _ _ _ _ (c .before .before .before .before .before .before .before .before .before .before .before .before .before .before .before .before .before .before .before .before .before .pre) _ ((c .before .before .before .before .before .before .before .before .before .before .before .before .tally-queue .ensures .1) (not-false _ (c .before .before .before .before .before .before .before .before .before .if1 .left))) (λ e. (c .if3 .taken) (omega (arith, (c .before .before .before .tally-all .ensures .0)))))
 
 tally-slots-requires : tie.Need-tally-slots-requires
-tally-slots-requires c κs = ((c .before .before .before .before .before .before .before .before .before .before .before .before .before .before .before .before .before .before .before .before .before .pre .most), (c .before .before .before .before .before .before .before .before .before .before .before .before .before .before .before .before .before .before .before .before .before .pre .slots-size), room2 _ _ _ _ _ _ _ (c .before .before .before .before .before .before .before .before .before .before .before .before .before .before .before .before .before .before .before .before .before .pre) _ ((c .before .before .before .before .before .before .before .before .before .before .before .before .tally-queue .ensures .1) (not-false _ (c .before .before .before .before .before .before .before .before .before .if1 .left))) _ (c .before .before .before .before .tally-all .ensures .1))
+tally-slots-requires c κs = ((c .before .before .before .before .before .before .before .before .before .before .before .before .before .before .before .before .before .before .before .before .before .before .pre .most), (c .before .before .before .before .before .before .before .before .before .before .before .before .before .before .before .before .before .before .before .before .before .before .pre .slots-size), room-slots _ _ _ _ _ _ _ (c .before .before .before .before .before .before .before .before .before .before .before .before .before .before .before .before .before .before .before .before .before .before .pre) _ ((c .before .before .before .before .before .before .before .before .before .before .before .before .before .tally-queue .ensures .1) (not-false _ (c .before .before .before .before .before .before .before .before .before .before .if1 .left))) _ (c .before .before .before .before .tally-all .ensures .1))
 
 same-length-4 : tie.Need-same-length-4
-same-length-4 c = (c .before .before .before .tally-slots .kept .0) ∙ (c .before .before .before .before .before .before .before .before .tally-all .kept .0) ∙ (c .before .before .before .before .before .before .before .before .before .before .before .before .before .before .before .before .tally-queue .kept .0)
+same-length-4 c = (c .before .before .before .tally-slots .kept .0) ∙ (c .before .before .before .before .before .before .before .before .tally-all .kept .0) ∙ (c .before .before .before .before .before .before .before .before .before .before .before .before .before .before .before .before .before .tally-queue .kept .0)
 
 returns-4 : tie.Need-returns-4
-returns-4 c = sym (bad-slots _ _ _ _ _ _ _ (c .before .before .before .before .before .before .before .before .before .before .before .before .before .before .before .before .before .before .before .before .before .before .before .before .before .pre) _ ((c .before .before .before .before .before .before .before .before .before .before .before .before .before .before .before .before .tally-queue .ensures .1) (not-false _ (c .before .before .before .before .before .before .before .before .before .before .before .before .before .if1 .left))) _ (c .before .before .before .before .before .before .before .before .tally-all .ensures .1) (sym (c .before .before .before .tally-slots .ensures .0) ∙ not-true _ (c .if4 .taken)))
+returns-4 c = sym (bad-slots _ _ _ _ _ _ _ (c .before .before .before .before .before .before .before .before .before .before .before .before .before .before .before .before .before .before .before .before .before .before .before .before .before .before .pre) _ ((c .before .before .before .before .before .before .before .before .before .before .before .before .before .before .before .before .before .tally-queue .ensures .1) (not-false _ (c .before .before .before .before .before .before .before .before .before .before .before .before .before .before .if1 .left))) _ (c .before .before .before .before .before .before .before .before .tally-all .ensures .1) (sym (c .before .before .before .tally-slots .ensures .0) ∙ not-true _ (c .if4 .taken)))
+
+sub-counts-ok : tie.Need-sub-counts-ok
+sub-counts-ok c = search needs
+
+part-counts-ok-start : tie.Need-part-counts-ok-start
+part-counts-ok-start c = search needs
+
+part-counts-ok-end : tie.Need-part-counts-ok-end
+part-counts-ok-end c = search needs
 
 counts-ok-requires : tie.Need-counts-ok-requires
-counts-ok-requires c κs = ((c .before .before .before .before .before .before .before .before .before .before .before .before .before .before .before .before .before .before .before .before .before .before .before .before .before .before .pre .most), (c .before .before .before .before .before .before .before .before .before .before .before .before .before .before .before .before .before .before .before .before .before .before .before .before .before .before .pre .count-size), (c .before .before .before .before .tally-slots .kept .0) ∙ (c .before .before .before .before .before .before .before .before .before .tally-all .kept .0) ∙ (c .before .before .before .before .before .before .before .before .before .before .before .before .before .before .before .before .before .tally-queue .kept .0) ∙ (c .before .before .before .before .before .before .before .before .before .before .before .before .before .before .before .before .before .before .before .before .before .before .before .before .before .before .pre .tally-size))
+counts-ok-requires c κs = search needs
 
 same-length-5 : tie.Need-same-length-5
-same-length-5 c = (c .before .before .before .before .before .tally-slots .kept .0) ∙ (c .before .before .before .before .before .before .before .before .before .before .tally-all .kept .0) ∙ (c .before .before .before .before .before .before .before .before .before .before .before .before .before .before .before .before .before .before .tally-queue .kept .0)
+same-length-5 c = (c .before .before .before .before .before .before .tally-slots .kept .0) ∙ (c .before .before .before .before .before .before .before .before .before .before .before .tally-all .kept .0) ∙ (c .before .before .before .before .before .before .before .before .before .before .before .before .before .before .before .before .before .before .before .before .tally-queue .kept .0)
 
 returns-5 : tie.Need-returns-5
-returns-5 c = (c .counts-ok .ensures) ∙ sym (by-counts _ _ _ _ _ _ _ (c .before .before .before .before .before .before .before .before .before .before .before .before .before .before .before .before .before .before .before .before .before .before .before .before .before .before .before .pre) _ ((c .before .before .before .before .before .before .before .before .before .before .before .before .before .before .before .before .before .before .tally-queue .ensures .1) (not-false _ (c .before .before .before .before .before .before .before .before .before .before .before .before .before .before .before .if1 .left))) _ (c .before .before .before .before .before .before .before .before .before .before .tally-all .ensures .1) _ ((c .before .before .before .before .before .tally-slots .ensures .1) (not-false _ (c .before .before .if4 .left))) (sym (c .before .before .before .before .before .before .before .before .before .before .before .before .before .before .before .before .before .before .tally-queue .ensures .0) ∙ not-false _ (c .before .before .before .before .before .before .before .before .before .before .before .before .before .before .before .if1 .left)) (sym (c .before .before .before .before .before .before .before .before .before .before .before .before .before .shapes-ok .ensures) ∙ not-false _ (c .before .before .before .before .before .before .before .before .before .before .before .before .if2 .left)) (omega (arith, (c .before .before .before .before .before .before .before .before .before .before .tally-all .ensures .0), (c .before .before .before .before .before .before .before .if3 .left))) (sym (c .before .before .before .before .before .tally-slots .ensures .0) ∙ not-false _ (c .before .before .if4 .left)))
+returns-5 c = (c .counts-ok .ensures) ∙ sym (by-counts _ _ _ _ _ _ _ (c .before .before .before .before .before .before .before .before .before .before .before .before .before .before .before .before .before .before .before .before .before .before .before .before .before .before .before .before .before .pre) _ ((c .before .before .before .before .before .before .before .before .before .before .before .before .before .before .before .before .before .before .before .before .tally-queue .ensures .1) (not-false _ (c .before .before .before .before .before .before .before .before .before .before .before .before .before .before .before .before .before .if1 .left))) _ (c .before .before .before .before .before .before .before .before .before .before .before .tally-all .ensures .1) _ ((c .before .before .before .before .before .before .tally-slots .ensures .1) (not-false _ (c .before .before .before .if4 .left))) (sym (c .before .before .before .before .before .before .before .before .before .before .before .before .before .before .before .before .before .before .before .before .tally-queue .ensures .0) ∙ not-false _ (c .before .before .before .before .before .before .before .before .before .before .before .before .before .before .before .before .before .if1 .left)) (sym (c .before .before .before .before .before .before .before .before .before .before .before .before .before .before .shapes-ok .ensures) ∙ not-false _ (c .before .before .before .before .before .before .before .before .before .before .before .before .before .if2 .left)) (omega (arith, (c .before .before .before .before .before .before .before .before .before .before .before .tally-all .ensures .0), (c .before .before .before .before .before .before .before .before .if3 .left))) (sym (c .before .before .before .before .before .before .tally-slots .ensures .0) ∙ not-false _ (c .before .before .before .if4 .left)))
 
 pub tally-ok-spec : {M : Type 1} → statement M
 tally-ok-spec =
@@ -59,6 +78,9 @@ tally-ok-spec =
     tally-queue-requires
     same-length
     returns
+    sub-shapes-ok
+    part-shapes-ok-start
+    part-shapes-ok-end
     shapes-ok-requires
     same-length-2
     returns-2
@@ -68,6 +90,9 @@ tally-ok-spec =
     tally-slots-requires
     same-length-4
     returns-4
+    sub-counts-ok
+    part-counts-ok-start
+    part-counts-ok-end
     counts-ok-requires
     same-length-5
     returns-5)

@@ -38,10 +38,7 @@ same-length-2 : tie.Need-same-length-2 Inv-loop μ-loop
 same-length-2 c = search needs
 
 returns-2 : tie.Need-returns-2 Inv-loop μ-loop
-returns-2 c = (sym (unnamed _ _ (c .before .before .before .before .loop .i) (c .before .before .before .loop-test .taken) (λ b. omega (arith, b .1, (c .before .before .before .before .loop .inv .same)))), λ t. clash t refl)
-
-sub-if3 : tie.Need-sub-if3 Inv-loop μ-loop
-sub-if3 c = search needs
+returns-2 c = (sym (unnamed _ _ (c .before .before .before .before .loop .i) (c .before .before .before .loop-test .taken) (λ b. omega (arith, b .0, b .1, (c .before .before .before .before .loop .inv .is .same)))), λ t. clash t refl)
 
 mul-if3 : tie.Need-mul-if3 Inv-loop μ-loop
 mul-if3 c = search needs
@@ -54,9 +51,6 @@ same-length-3 c = search needs
 
 returns-3 : tie.Need-returns-3 Inv-loop μ-loop
 returns-3 c = (sym (twice (c .before .before .before .before .before .before .before .pre) (c .before .before .before .before .before .before .loop .inv) (c .before .before .before .before .before .loop-test .taken) (omega arith) (c .before .before .if2 .left) (λ e. omega arith)), λ t. clash t refl)
-
-sub-tally : tie.Need-sub-tally Inv-loop μ-loop
-sub-tally c = search needs
 
 mul-tally : tie.Need-mul-tally Inv-loop μ-loop
 mul-tally c = search needs
@@ -93,12 +87,10 @@ tally-queue-spec =
     returns
     same-length-2
     returns-2
-    sub-if3
     mul-if3
     slice-read-if3
     same-length-3
     returns-3
-    sub-tally
     mul-tally
     slice-write-tally
     add-i
