@@ -22,7 +22,7 @@ PLACES = [
     r"docs/changes/Q-\d\d\.md",
     r"tests/[a-z_]+\.(py|c)",
     r"tests/edits/[a-z_]+/[a-z0-9_]+\.edit",
-    r"tests/independent/[a-z_]+\.[ch]",
+    r"tests/independent/[a-z_]+\.(c|h|py)",
     r"tests/independent/edits/[a-z0-9_]+\.edit",
     r"bench/[a-z]+\.(c|h|py)",
     r"include/vekszalir\.(h|pc\.in)",

@@ -9,6 +9,7 @@ pub mod Marking
 pub mod Depth
 pub mod Collect
 pub mod Calls
+pub mod Asked
 pub mod Numbers
 pub mod Claim
 pub mod CounterBook

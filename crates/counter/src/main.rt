@@ -1,0 +1,173 @@
+// Runs one heap of 256 cells from standard input: a call on each line, and a line of answer for each on standard output.
+//
+// A read that fails ends the run: the lines before it are answered by then, and the unfinished one is not. A write that fails ends it as well.
+// Either is reported on standard error; the language has no exit status for a program to set.
+ghost use mathlib.Core.Path.{_≡_};
+ghost use Prim.Native.Nat.{_≤_};
+ghost use lib.ListN.{length};
+ghost use Rattle.rules.specs.Heap.{tables};
+ghost use Rattle.counter.specs.Served.{Answered, AnsweredSome};
+use csv::scan::Scan;
+use csv::scan::start;
+use session::close;
+use session::header;
+use session::take_piece;
+
+// After a read: the scan to go on with, or the run is over.
+enum Served {
+    More(Scan),
+    Over,
+}
+
+// Room for one read. Each of its bytes ends at most one line, so the answers, at most 31 bytes each, fit 65,536 bytes.
+fn room() -> [u8; 2048]
+    ensures { λ r. ⌜ 2048 ≡ length r ⌝ }
+{
+    [0; 2048]
+}
+
+// Writes the answers to the lines that end in a piece of the input, in one go.
+fn serve_piece(
+    kind: &mut [u16],
+    flags: &mut [u16],
+    count: &mut [u16],
+    slots: &mut [u16],
+    roots: &mut [u16],
+    queue: &mut [u16],
+    control: &mut [u16],
+    scan: Scan,
+    piece: &[u8],
+) -> Served
+    requires { ⌜ length (now piece) ≤ 2048 ⌝ }
+    ensures { λ r. ⌜ Answered scan
+        (tables (now (kind .entry)) (now (flags .entry)) (now (count .entry)) (now (slots .entry)) (now (roots .entry)) (now (queue .entry)) (now (control .entry)))
+        (now (piece .entry))
+        (tables (now (kind .exit)) (now (flags .exit)) (now (count .exit)) (now (slots .exit)) (now (roots .exit)) (now (queue .exit)) (now (control .exit))) r ⌝ }
+{
+    let mut out = io::large_buffer();
+    let p = take_piece(
+        kind,
+        flags,
+        count,
+        slots,
+        roots,
+        queue,
+        control,
+        scan,
+        piece,
+        &mut out,
+    );
+    let at = p.at;
+    let next = p.scan;
+    if !io::write_all(libc::STDOUT_FILENO, &out[..at]) {
+        os::fail(b"write");
+        return Served::Over;
+    }
+    Served::More(next)
+}
+
+// The end of the input: an unfinished line is answered.
+fn end(
+    kind: &mut [u16],
+    flags: &mut [u16],
+    count: &mut [u16],
+    slots: &mut [u16],
+    roots: &mut [u16],
+    queue: &mut [u16],
+    control: &mut [u16],
+    scan: Scan,
+) {
+    let mut out = io::buffer();
+    let at = close(
+        kind,
+        flags,
+        count,
+        slots,
+        roots,
+        queue,
+        control,
+        scan,
+        &mut out,
+    );
+    if !io::write_all(libc::STDOUT_FILENO, &out[..at]) {
+        os::fail(b"write");
+    }
+}
+
+// Reads once, and answers.
+fn serve(
+    kind: &mut [u16],
+    flags: &mut [u16],
+    count: &mut [u16],
+    slots: &mut [u16],
+    roots: &mut [u16],
+    queue: &mut [u16],
+    control: &mut [u16],
+    scan: Scan,
+) -> Served
+    ensures { λ r. ⌜ AnsweredSome scan
+        (tables (now (kind .entry)) (now (flags .entry)) (now (count .entry)) (now (slots .entry)) (now (roots .entry)) (now (queue .entry)) (now (control .entry)))
+        (tables (now (kind .exit)) (now (flags .exit)) (now (count .exit)) (now (slots .exit)) (now (roots .exit)) (now (queue .exit)) (now (control .exit))) r ⌝ }
+{
+    let mut input = room();
+    let got = libc::read(libc::STDIN_FILENO, &mut input);
+    if got < 0 {
+        os::fail(b"read");
+        return Served::Over;
+    }
+    if got == 0 {
+        end(kind, flags, count, slots, roots, queue, control, scan);
+        return Served::Over;
+    }
+    let n = io::count(got, &input);
+    serve_piece(
+        kind,
+        flags,
+        count,
+        slots,
+        roots,
+        queue,
+        control,
+        scan,
+        &input[..n],
+    )
+}
+
+// A fresh heap has 0 in every entry.
+// A proved loop has to end, and nothing says that the input does: the loop counts down from a number of reads that no run makes.
+fn run() {
+    let mut kind = [0u16; 256];
+    let mut flags = [0u16; 256];
+    let mut count = [0u16; 256];
+    let mut slots = [0u16; 2048];
+    let mut roots = [0u16; 64];
+    let mut queue = [0u16; 256];
+    let mut control = [0u16; 2];
+    let mut scan = start();
+    let mut reads = u64::MAX;
+    while reads > 0 {
+        reads -= 1;
+        let Served::More(next) = serve(
+            &mut kind,
+            &mut flags,
+            &mut count,
+            &mut slots,
+            &mut roots,
+            &mut queue,
+            &mut control,
+            scan,
+        ) else {
+            return;
+        };
+        scan = next;
+    }
+}
+
+fn main() {
+    let first = header();
+    if !io::write_all(libc::STDOUT_FILENO, &first) {
+        os::fail(b"write");
+        return;
+    }
+    run();
+}

@@ -1,0 +1,10 @@
+pub mod Numbers
+pub mod Parts
+pub mod Taking
+pub mod Start
+pub mod Feeding
+pub mod Whole
+pub mod Written
+pub mod Decimal
+pub mod Spelled
+pub mod Examples

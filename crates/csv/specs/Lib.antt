@@ -1,0 +1,5 @@
+pub mod Lines
+pub mod Meaning
+pub mod Feeding
+pub mod Decimal
+pub mod Written

@@ -1,0 +1,64 @@
+-- The calls that the program makes are a list to which demand 3 applies. Assumes nothing.
+use Prim.Native.Nat.{ℕ}
+use native.Mathlib.Omega.{arith}
+use mathlib.Core.Path.{_≡_, refl, sym, ap, subst⁻¹}
+use mathlib.Core.List.{List, [], _∷_, _++_}
+use Rattle.csv.specs.Lines.{recordsOf}
+use Rattle.csv.specs.declared.scan.Record.{Record}
+use Rattle.rules.specs.Heap.{Heap, fresh, cells}
+use Rattle.rules.specs.Refusals.{Call}
+use Rattle.rules.specs.Refusals.Call.{FRESH}
+use Rattle.rules.specs.Calls.{Result, answers, refuse, done, step, Did, run}
+use Rattle.rules.specs.Claim.{Between}
+use Rattle.rules.specs.Claim.Between.{first, behind}
+use Rattle.rules.specs.Asked.{Asked}
+use Rattle.rules.specs.Asked.Asked.{call, LINE}
+use Rattle.laws.specs.Calls.Admission.{step-fresh, fresh-ready}
+use Rattle.laws.specs.Demand.Whole.{demand-3, run-trace}
+use Rattle.session.specs.Session.{askedOf, numberOf, lineOf, obey, after, session, afterAll}
+use Rattle.session.specs.Program.{atStart}
+use Rattle.session.specs.CallsMade.{inFront, callsOf, made, Lined, Keeps}
+use Rattle.session.specs.CallsMade.Lined.{none, called, refused}
+
+-- ---- the calls that lines ask for
+
+-- one line in front, by what it asks for
+lined-one : (h : Heap) (r : Record) (rs : List Record) (q : Asked) → askedOf r ≡ q
+    → Lined rs (run (obey h q .heap) (callsOf rs)) (session (obey h q .heap) rs)
+    → Lined (r ∷ rs) (run h (inFront q (callsOf rs))) (lineOf (numberOf r) (obey h q .answer) ++ session (obey h q .heap) rs)
+unfolding run inFront obey refuse
+lined-one h r rs (call c) e l = called r (record { call = c; after = step h c .heap; answer = step h c .answer }) e l
+lined-one h r rs LINE e l = refused r e l
+
+all-lined : (h : Heap) (rs : List Record) → Lined rs (run h (callsOf rs)) (session h rs)
+unfolding run callsOf session
+all-lined h [] = none
+all-lined h (r ∷ rs) = lined-one h r rs (askedOf r) refl (all-lined (after h r) rs)
+
+between-one : (h g : Heap) (q : Asked) (l : List Call) → Between (obey h q .heap) (run (obey h q .heap) l) g → Between h (run h (inFront q l)) g
+unfolding run inFront obey refuse
+between-one h g (call c) l b = behind b
+between-one h g LINE l b = b
+
+-- the tables after some of the lines
+between-lines : (h : Heap) (p q : List Record) → Between h (run h (callsOf (p ++ q))) (afterAll h p)
+unfolding callsOf afterAll
+between-lines h [] q = first
+between-lines h (r ∷ p) q = between-one h (afterAll (after h r) p) (askedOf r) (callsOf (p ++ q)) (between-lines (after h r) p q)
+
+-- ---- from a fresh heap
+
+fresh-done : Did FRESH atStart atStart (answers 0 0 0 0)
+unfolding done fresh
+fresh-done =
+    let e : step atStart FRESH ≡ done (fresh (cells atStart)) 0 = step-fresh atStart (fresh-ready 256 (omega arith) (omega arith) .sized) in
+    record { heap = sym (ap (λ (r : Result). r .heap) e); answered = sym (ap (λ (r : Result). r .answer) e) }
+
+pub program-keeps : (input : List ℕ) → Keeps input
+program-keeps input = record {
+  freshDone = fresh-done;
+  trace = run-trace atStart (callsOf (recordsOf input));
+  lines = all-lined atStart (recordsOf input);
+  between = λ p q e. subst⁻¹ (λ (l : List Record). Between atStart (run atStart (callsOf l)) (afterAll atStart p)) e (between-lines atStart p q);
+  claim = demand-3 atStart atStart (answers 0 0 0 0) fresh-done refl (made input) (run-trace atStart (callsOf (recordsOf input)));
+}

@@ -1,0 +1,6 @@
+pub mod Asked
+pub mod Session
+pub mod Sizes
+pub mod Delivery
+pub mod Program
+pub mod CallsMade

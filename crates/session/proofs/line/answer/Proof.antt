@@ -1,0 +1,54 @@
+-- `session::line::answer` meets its contract, by cases on what the line says. Assumes nothing.
+use mathlib.Core.Path.{sym, refl}
+use Rattle.rules.specs.Calls.{refuse}
+use Rattle.session.specs.Session.{askedOf, numberOf, obey}
+use borrow.Author.Needs.{needs}
+use Rattle.session.proofs.line.answer.Statement.{statement}
+use Rattle.session.proofs.line.answer.Tie as tie
+
+returns : tie.Need-returns
+unfolding askedOf numberOf
+returns c =
+    rw (c .before .before .before .before .before .before .before .before .before .before .before .before .before .before .before .before .before .before .before .before .before .before .before .before .before .before .before .said .given .1) (
+      c .before .before .before .before .before .before .before .before .before .before .before .before .before .before .before .before .before .before .dispatch .ensures .heap,
+      (
+        rw (sym (c .before .before .before .before .before .before .before .before .before .before .before .before .before .before .before .before .before .before .dispatch .ensures .answered)) (c .before .before .write-answer .ensures .0),
+        c .before .before .write-answer .ensures .1,
+      ),
+    )
+
+returns-2 : tie.Need-returns-2
+unfolding askedOf numberOf obey refuse
+returns-2 c =
+    rw (c .before .before .before .before .before .enum-told .given .1) (
+      refl,
+      (
+        rw (c .before .before .before .refuse .ensures) at (c .before .before .write-answer2 .ensures .0),
+        c .before .before .write-answer2 .ensures .1,
+      ),
+    )
+
+pub answer-spec : {M : Type 1} → statement M
+answer-spec =
+    tie.close
+    (tie.spec
+    (λ c. search needs)
+    (λ c. search needs)
+    (λ c. search needs)
+    (λ c. search needs)
+    (λ c κs. tt)
+    (λ c κs. c .before .before .before .before .before .before .before .before .before .before .before .before .before .before .before .before .before .before .before .before .before .before .before .before .before .before .before .before .before .before .before .before .before .before .pre)
+    (λ c. search needs)
+    (λ c κs. tt)
+    (λ c κs. c .before .before .before .before .before .before .before .before .before .before .before .before .pre)
+    (λ c. c .before .before .before .before .before .before .before .before .before .before .before .before .before .before .before .before .before .before .dispatch .kept .0)
+    (λ c. c .before .before .before .before .before .before .before .before .before .before .before .before .before .before .before .before .before .before .dispatch .kept .1 .0)
+    (λ c. c .before .before .before .before .before .before .before .before .before .before .before .before .before .before .before .before .before .before .dispatch .kept .1 .1 .0)
+    (λ c. c .before .before .before .before .before .before .before .before .before .before .before .before .before .before .before .before .before .before .dispatch .kept .1 .1 .1 .0)
+    (λ c. c .before .before .before .before .before .before .before .before .before .before .before .before .before .before .before .before .before .before .dispatch .kept .1 .1 .1 .1 .0)
+    (λ c. c .before .before .before .before .before .before .before .before .before .before .before .before .before .before .before .before .before .before .dispatch .kept .1 .1 .1 .1 .1 .0)
+    (λ c. c .before .before .before .before .before .before .before .before .before .before .before .before .before .before .before .before .before .before .dispatch .kept .1 .1 .1 .1 .1 .1 .0)
+    (λ c. c .before .before .write-answer .ensures .0 .size)
+    returns
+    (λ c. c .before .before .write-answer2 .ensures .0 .size)
+    returns-2)

@@ -1,0 +1,4 @@
+pub mod Session
+pub mod Pieces
+pub mod Program
+pub mod CallsMade

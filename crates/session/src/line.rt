@@ -1,0 +1,84 @@
+// A line of the input, obeyed and answered.
+ghost use mathlib.Core.Path.{_≡_};
+ghost use mathlib.Core.Bool.{cond};
+ghost use Prim.Native.Nat.{_+_, _≤_};
+ghost use lib.Dec.{eqb};
+ghost use lib.ListN.{length};
+ghost use Rattle.csv.specs.Written.{Wrote};
+ghost use Rattle.rules.specs.Heap.{tables};
+ghost use Rattle.session.specs.Session.{lineOf, lineFor, after};
+use crate::ask::LINE;
+use crate::ask::dispatch;
+use calls_admission::refuse;
+use csv::render::render;
+use csv::scan::Record;
+use rules::Answer;
+
+// The call's number in an output line: a line that is refused LINE has 0 as its call.
+fn number_of(op: u16, refused: u16) -> u16
+    ensures { λ r. ⌜ r ≡ cond (eqb refused 11) 0 op ⌝ }
+{
+    if refused == LINE {
+        return 0;
+    }
+    op
+}
+
+// The output line of call `op`, written at `at`; the place after it.
+fn write_answer(out: &mut [u8], at: usize, op: u16, a: Answer) -> usize
+    requires { ⌜ at + 31 ≤ length (now out) ⌝ }
+    ensures { λ r. ⌜ Wrote (now (out .entry)) at (lineOf op a) (now (out .exit)) r ⌝ }
+    ensures { λ r. ⌜ r ≤ at + 31 ⌝ }
+{
+    render(
+        out,
+        at,
+        number_of(op, a.refused),
+        a.refused,
+        a.freed,
+        a.queued,
+        a.cell,
+    )
+}
+
+// Obeys a line and writes its answer at `at`; the place after it.
+pub fn answer(
+    kind: &mut [u16],
+    flags: &mut [u16],
+    count: &mut [u16],
+    slots: &mut [u16],
+    roots: &mut [u16],
+    queue: &mut [u16],
+    control: &mut [u16],
+    said: Record,
+    out: &mut [u8],
+    at: usize,
+) -> usize
+    requires { ⌜ at + 31 ≤ length (now out) ⌝ }
+    ensures { λ r. ⌜ tables (now (kind .exit)) (now (flags .exit)) (now (count .exit)) (now (slots .exit)) (now (roots .exit)) (now (queue .exit)) (now (control .exit))
+        ≡ after (tables (now (kind .entry)) (now (flags .entry)) (now (count .entry)) (now (slots .entry)) (now (roots .entry)) (now (queue .entry)) (now (control .entry))) said ⌝ }
+    ensures { λ r. ⌜ Wrote (now (out .entry)) at
+        (lineFor (tables (now (kind .entry)) (now (flags .entry)) (now (count .entry)) (now (slots .entry)) (now (roots .entry)) (now (queue .entry)) (now (control .entry))) said)
+        (now (out .exit)) r ⌝ }
+    ensures { λ r. ⌜ r ≤ at + 31 ⌝ }
+{
+    match said {
+        Record::Numbers(op, x, y, z) => {
+            let a = dispatch(
+                kind,
+                flags,
+                count,
+                slots,
+                roots,
+                queue,
+                control,
+                op,
+                x as usize,
+                y as usize,
+                z as usize,
+            );
+            write_answer(out, at, op, a)
+        }
+        Record::Malformed => write_answer(out, at, 0, refuse(LINE)),
+    }
+}

@@ -1,0 +1,141 @@
+/* "Counter book: twelve marked examples", and the answers that stand there. */
+#include "suites.h"
+
+#include "pair.h"
+
+/* A step that isn't a call: table, entry and the value that stands there now. */
+enum { FACT = OPS };
+
+enum { STEPS = 14 };
+
+/* A call, the numbers it gets and the answer wanted. A list ends with a step that is all zeros. */
+struct step {
+    unsigned op;
+    size_t arg[3];
+    struct answer want;
+};
+
+struct example {
+    const char *name;
+    size_t cells;
+    struct step steps[STEPS];
+};
+
+#define K6_FIRST { NEW, { 0, 1, 1 }, { 0 } }, { CLEAR, { 0 }, { .queued = 1 } }
+#define K7_FIRST                                                                                              \
+    K6_FIRST, { START, { 0 }, { 0 } }, { COPY, { 1, 0 }, { 0 } }, { FINISH, { 0 }, { 0 } },                   \
+        { FACT, { T_COUNT, 0, 1 }, { 0 } }, { FACT, { T_FLAGS, 0, 3 }, { 0 } }
+
+static const struct example examples[] = {
+    { "K1", 1,
+      { { NEW, { 0, 1, 0 }, { 0 } },
+        { NEW, { 1, 1, 0 }, { .refused = FULL } },
+        { CLEAR, { 0 }, { .freed = 1 } },
+        { NEW, { 0, 1, 0 }, { 0 } } } },
+    { "K2", 256,
+      { { NEW, { 0, 1, 0 }, { 0 } },
+        { NEW, { 1, 2, 0 }, { .cell = 1 } },
+        { STORE, { 0, 0, 1 }, { 0 } },
+        { CLEAR, { 1 }, { 0 } },
+        { CLEAR, { 0 }, { .freed = 2 } } } },
+    { "K3", 256,
+      { { NEW, { 0, 1, 0 }, { 0 } },
+        { COPY, { 0, 0 }, { 0 } },
+        { FACT, { T_COUNT, 0, 1 }, { 0 } } } },
+    { "K4", 256,
+      { { NEW, { 0, 1, 0 }, { 0 } },
+        { NEW, { 1, 1, 0 }, { .cell = 1 } },
+        { STORE, { 0, 0, 1 }, { 0 } },
+        { CLEAR, { 1 }, { 0 } },
+        { LOAD, { 0, 0, 0 }, { .freed = 1 } },
+        { FACT, { T_KIND, 0, FREE }, { 0 } },
+        { FACT, { T_COUNT, 1, 1 }, { 0 } } } },
+    { "K5", 256,
+      { { NEW, { 0, 1, 0 }, { 0 } },
+        { NEW, { 1, 1, 0 }, { .cell = 1 } },
+        { STORE, { 0, 0, 1 }, { 0 } },
+        { STORE, { 1, 0, 0 }, { 0 } },
+        { CLEAR, { 0 }, { 0 } },
+        { CLEAR, { 1 }, { 0 } },
+        { COLLECT, { 0 }, { .freed = 2 } } } },
+    { "K6", 256,
+      { K6_FIRST,
+        { FACT, { T_COUNT, 0, 1 }, { 0 } },
+        { START, { 0 }, { 0 } },
+        { FACT, { T_COUNT, 0, 2 }, { 0 } },
+        { FINISH, { 0 }, { .freed = 1 } } } },
+    { "K7", 256,
+      { K7_FIRST,
+        { CLEAR, { 1 }, { .freed = 1 } } } },
+    { "K8", 256,
+      { K7_FIRST,
+        { COLLECT, { 0 }, { 0 } },
+        { FACT, { T_FLAGS, 0, 1 }, { 0 } },
+        { CLEAR, { 1 }, { .queued = 1 } } } },
+    { "K9", 256,
+      { { NEW, { 0, 1, 1 }, { 0 } },
+        { STORE, { 0, 0, 0 }, { 0 } },
+        { CLEAR, { 0 }, { 0 } },
+        { COLLECT, { 0 }, { .queued = 1 } },
+        { FACT, { T_COUNT, 0, 2 }, { 0 } },
+        { START, { 0 }, { 0 } },
+        { FINISH, { 0 }, { 0 } },
+        { FACT, { T_COUNT, 0, 1 }, { 0 } },
+        { FACT, { T_FLAGS, 0, 3 }, { 0 } },
+        { COLLECT, { 0 }, { .freed = 1 } } } },
+    { "K10", 256,
+      { { NEW, { 0, 1, 0 }, { 0 } },
+        { NEW, { 1, 1, 1 }, { .cell = 1 } },
+        { NEW, { 2, 1, 1 }, { .cell = 2 } },
+        { STORE, { 0, 0, 2 }, { 0 } },
+        { STORE, { 0, 1, 1 }, { 0 } },
+        { CLEAR, { 1 }, { 0 } },
+        { CLEAR, { 2 }, { 0 } },
+        { CLEAR, { 0 }, { .freed = 1, .queued = 2 } },
+        { FACT, { T_QUEUE, 0, 2 + 1 }, { 0 } },
+        { FACT, { T_QUEUE, 1, 1 + 1 }, { 0 } },
+        { FACT, { T_CONTROL, LENGTH, 2 }, { 0 } } } },
+    { "K11", 256,
+      { { NEW, { 0, 1, 0 }, { 0 } },
+        { NEW, { 1, 1, 1 }, { .cell = 1 } },
+        { NEW, { 2, 2, 0 }, { .cell = 2 } },
+        { STORE, { 1, 0, 2 }, { 0 } },
+        { STORE, { 0, 0, 1 }, { 0 } },
+        { CLEAR, { 1 }, { 0 } },
+        { CLEAR, { 2 }, { 0 } },
+        { CLEAR, { 0 }, { .freed = 1, .queued = 1 } },
+        { FACT, { T_KIND, 2, STRING }, { 0 } },
+        { COLLECT, { 0 }, { 0 } } } },
+    { "K12", 256,
+      { { FINISH, { 0 }, { .refused = IDLE } },
+        { START, { 64 }, { .refused = NUMBER } } } },
+};
+
+static bool same(struct answer a, struct answer b)
+{
+    return a.refused == b.refused && a.freed == b.freed && a.queued == b.queued && a.cell == b.cell;
+}
+
+static bool step_holds(struct pair *pair, const struct step *step)
+{
+    const size_t *arg = step->arg;
+    if (step->op == FACT)
+        return table_of(&pair->ours, arg[0])->at[arg[1]] == arg[2];
+    return same(pair_call(pair, step->op, arg[0], arg[1], arg[2]), step->want);
+}
+
+static void play(const struct example *example)
+{
+    pair_sequence(example->name);
+    struct pair pair = pair_of(example->cells);
+    pair_call(&pair, FRESH, 0, 0, 0);
+    for (const struct step *step = example->steps; step->op != FRESH; step++)
+        demand(step_holds(&pair, step), "the book says otherwise");
+    pair_free(&pair);
+}
+
+void book(void)
+{
+    for (size_t i = 0; i < sizeof examples / sizeof *examples; i++)
+        play(&examples[i]);
+}

@@ -1,0 +1,19 @@
+/* Random calls. */
+#ifndef CHOICE_H
+#define CHOICE_H
+
+#include "pair.h"
+
+/* What a list of calls is mostly about. */
+enum mood { FILLING, CUTTING, FINALIZING, MOODS };
+
+/* A call with arguments that suit what the sound heap holds, most of the time. */
+void knowing_call(struct pair *pair, enum mood mood);
+
+/* A call on tables that may be damaged: arguments are in range or wild, and nothing is followed. */
+void blind_call(struct pair *pair, enum op op);
+
+/* Noise of full 16-bit numbers in every entry. */
+void fill_with_noise(struct pair *pair);
+
+#endif

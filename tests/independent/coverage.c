@@ -1,0 +1,109 @@
+#include "coverage.h"
+
+#include <stdio.h>
+
+const char *const op_names[OPS] = { "FRESH", "NEW", "CLEAR", "COPY", "LOAD", "STORE", "COLLECT", "START", "FINISH" };
+
+static const char *const landmark_names[LANDMARKS] = {
+    [COLLECT_WHILE_RUNNING] = "COLLECT while a finalizer runs",
+    [COLLECT_RESCUES] = "COLLECT with a finalised cell in a root",
+    [FINISH_WITH_OTHER_IN_ROOT] = "FINISH with another cell in the running root",
+    [FINISH_WITH_EMPTY_ROOT] = "FINISH with an empty running root",
+    [FINISH_SURVIVED] = "FINISH on a cell that something else holds",
+    [QUEUE_FULL] = "a queue of N entries",
+    [NOISE_SOUND] = "random tables that are sound",
+    [NOISE_DAMAGED] = "random tables that are damaged",
+};
+
+#define BIT(refusal) (1u << (refusal))
+#define ANY_CALL (BIT(DONE) | BIT(SIZE) | BIT(DAMAGED))
+
+/* The refusals that document 01 makes possible for each call. */
+static const unsigned possible[OPS] = {
+    [FRESH] = BIT(DONE) | BIT(SIZE),
+    [NEW] = ANY_CALL | BIT(NUMBER) | BIT(TAKEN) | BIT(FULL),
+    [CLEAR] = ANY_CALL | BIT(NUMBER),
+    [COPY] = ANY_CALL | BIT(NUMBER),
+    [LOAD] = ANY_CALL | BIT(NUMBER) | BIT(EMPTY) | BIT(KIND),
+    [STORE] = ANY_CALL | BIT(NUMBER) | BIT(EMPTY) | BIT(KIND),
+    [COLLECT] = ANY_CALL,
+    [START] = ANY_CALL | BIT(NUMBER) | BIT(TAKEN) | BIT(BUSY) | BIT(NONE),
+    [FINISH] = ANY_CALL | BIT(IDLE),
+};
+
+static unsigned long met[OPS][REFUSALS], landmarks[LANDMARKS];
+static unsigned most_freed[OPS], most_queued[OPS];
+
+/* How much one call has to have freed and queued at least once. FINISH queues what the freed cell held. */
+static const unsigned free_at_least[OPS] = {
+    [CLEAR] = 1024, [COPY] = 257, [LOAD] = 257, [STORE] = 257, [COLLECT] = 1024, [FINISH] = 257,
+};
+static const unsigned queue_at_least[OPS] = {
+    [CLEAR] = 33, [COPY] = 1, [LOAD] = 1, [STORE] = 1, [COLLECT] = 257, [FINISH] = 2,
+};
+
+static void raise_to(unsigned *most, unsigned number)
+{
+    if (*most < number)
+        *most = number;
+}
+
+void coverage_call(enum op op, struct answer answer)
+{
+    met[op][answer.refused]++;
+    raise_to(&most_freed[op], answer.freed);
+    raise_to(&most_queued[op], answer.queued);
+}
+
+void coverage_landmark(enum landmark landmark)
+{
+    landmarks[landmark]++;
+}
+
+/* The calls that were answered so, of every number or of one. */
+static unsigned long calls_met(enum refusal first, enum refusal last)
+{
+    unsigned long sum = 0;
+    for (int op = 0; op < OPS; op++)
+        for (int refusal = first; refusal <= (int)last; refusal++)
+            sum += met[op][refusal];
+    return sum;
+}
+
+static bool lacking(bool lacks, const char *what, const char *which)
+{
+    if (lacks)
+        printf("not covered: %s %s\n", what, which);
+    return lacks;
+}
+
+static bool report_call(enum op op)
+{
+    bool lacks = false;
+    printf("  %-8s", op_names[op]);
+    for (int refusal = 0; refusal < REFUSALS; refusal++) {
+        printf(" %6lu", met[op][refusal]);
+        lacks |= (met[op][refusal] != 0) != ((possible[op] & BIT(refusal)) != 0);
+    }
+    printf("  at once freed %u, queued %u\n", most_freed[op], most_queued[op]);
+    return !lacking(lacks, op_names[op], "with each refusal it can give, and no other")
+        && !lacking(most_freed[op] < free_at_least[op], op_names[op], "freeing enough at once")
+        && !lacking(most_queued[op] < queue_at_least[op], op_names[op], "queueing enough at once");
+}
+
+static bool report_landmark(enum landmark landmark)
+{
+    printf("  %s: %lu\n", landmark_names[landmark], landmarks[landmark]);
+    return !lacking(landmarks[landmark] == 0, landmark_names[landmark], "");
+}
+
+bool coverage_report(void)
+{
+    bool all = true;
+    printf("%lu calls, %lu done; refusals 0 to 10 of each call:\n", calls_met(DONE, IDLE), calls_met(DONE, DONE));
+    for (int op = 0; op < OPS; op++)
+        all &= report_call(op);
+    for (int landmark = 0; landmark < LANDMARKS; landmark++)
+        all &= report_landmark(landmark);
+    return all;
+}

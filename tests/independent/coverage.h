@@ -1,0 +1,30 @@
+/* Counts what the comparison has met, and says what it should have met but hasn't. */
+#ifndef COVERAGE_H
+#define COVERAGE_H
+
+#include "heap.h"
+
+#include <stdbool.h>
+
+extern const char *const op_names[OPS];
+
+/* Situations that the answers of a single call don't tell. */
+enum landmark {
+    COLLECT_WHILE_RUNNING,
+    COLLECT_RESCUES,
+    FINISH_WITH_OTHER_IN_ROOT,
+    FINISH_WITH_EMPTY_ROOT,
+    FINISH_SURVIVED,
+    QUEUE_FULL,
+    NOISE_SOUND,
+    NOISE_DAMAGED,
+    LANDMARKS
+};
+
+void coverage_call(enum op op, struct answer answer);
+void coverage_landmark(enum landmark landmark);
+
+/* Prints the counts; true if nothing is lacking. */
+bool coverage_report(void);
+
+#endif

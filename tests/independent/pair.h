@@ -1,0 +1,31 @@
+/* Two heaps with equal tables: the independent one and the one under test. Every call goes to both, and the first
+   difference ends the program with a report. */
+#ifndef PAIR_H
+#define PAIR_H
+
+#include "tables.h"
+
+#include <stdbool.h>
+
+struct pair {
+    struct heap ours, theirs;
+    uint16_t *guarded[TABLES]; /* the room of `theirs`, with guard entries around each table */
+};
+
+/* Named in the report of a difference. */
+void pair_seed(unsigned long long seed);
+void pair_sequence(const char *part);
+
+struct pair pair_make(const size_t len[TABLES]);
+struct pair pair_of(size_t n);
+void pair_free(struct pair *pair);
+
+/* Hands the tables of `ours`, as somebody has written them, to `theirs` too. */
+void pair_share(struct pair *pair);
+
+/* Ends the program, with a report, if what both heaps did isn't what document 01 says. */
+void demand(bool holds, const char *what);
+
+struct answer pair_call(struct pair *pair, enum op op, size_t a, size_t b, size_t c);
+
+#endif

@@ -1,0 +1,15 @@
+/* The parts of the comparison; each ends the program at the first difference. */
+#ifndef SUITES_H
+#define SUITES_H
+
+void book(void);    /* the marked examples K1 to K12, with the answers that document 01 gives */
+void corners(void); /* situations that random lists seldom meet */
+void chains(void);  /* chains and rings of every length */
+void trees(void);   /* trees with finalizers */
+void numbers(void); /* numbers up to the largest in every place of every call */
+void damage(void);  /* a sound heap with a single clause broken */
+void lengths(void); /* tables whose lengths don't fit */
+void lists(void);   /* long random lists of calls */
+void noise(void);   /* random tables, sound and not */
+
+#endif

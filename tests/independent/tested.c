@@ -1,0 +1,38 @@
+#include "tested.h"
+
+#include "../../include/vekszalir.h"
+
+#define LENT                                                                                                  \
+    heap->kind.at, heap->kind.len, heap->flags.at, heap->flags.len, heap->count.at, heap->count.len,          \
+        heap->slots.at, heap->slots.len, heap->roots.at, heap->roots.len, heap->queue.at, heap->queue.len,    \
+        heap->control.at, heap->control.len
+
+static vek_answer pass_on(struct heap *heap, enum op op, size_t a, size_t b, size_t c)
+{
+    switch (op) {
+    case NEW:
+        return vek_new(LENT, a, b, c);
+    case CLEAR:
+        return vek_clear(LENT, a);
+    case COPY:
+        return vek_copy(LENT, a, b);
+    case LOAD:
+        return vek_load(LENT, a, b, c);
+    case STORE:
+        return vek_store(LENT, a, b, c);
+    case COLLECT:
+        return vek_collect(LENT);
+    case START:
+        return vek_start(LENT, a);
+    case FINISH:
+        return vek_finish(LENT);
+    default:
+        return vek_fresh(LENT);
+    }
+}
+
+struct answer tested_call(struct heap *heap, enum op op, size_t a, size_t b, size_t c)
+{
+    vek_answer answer = pass_on(heap, op, a, b, c);
+    return (struct answer){ answer.refused, answer.freed, answer.queued, answer.cell };
+}
