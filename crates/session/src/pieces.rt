@@ -1,8 +1,10 @@
 // The input in pieces: what was written so far never depends on where it was cut.
+ghost use mathlib.Core.Path.{_≡_};
 ghost use mathlib.Core.List.{[], _∷_};
 ghost use Prim.Native.Nat.{_+_, _*_, _≤_};
 ghost use lib.ListN.{length};
 ghost use Rattle.rules.specs.Heap.{tables};
+ghost use Rattle.csv.specs.Meaning.{start as begin};
 ghost use Rattle.session.specs.Pieces.{Advanced, Closed};
 use crate::line::answer;
 use csv::scan::Last;
@@ -16,6 +18,13 @@ use csv::scan::start;
 pub struct Progress {
     pub scan: Scan,
     pub at: usize,
+}
+
+// A line has ended and is answered: the next one begins.
+fn next_line(at: usize) -> Progress
+    ensures { λ r. ⌜ r ≡ record { scan = begin; at = at } ⌝ }
+{
+    Progress { scan: start(), at }
 }
 
 // One byte of the input; if it ends a line, that is answered at `at`.
@@ -40,24 +49,18 @@ fn take_byte(
 {
     match feed(scan, byte) {
         Step::More(next) => Progress { scan: next, at },
-        Step::Line(said) => {
-            let end = answer(
-                kind,
-                flags,
-                count,
-                slots,
-                roots,
-                queue,
-                control,
-                said,
-                out,
-                at,
-            );
-            Progress {
-                scan: start(),
-                at: end,
-            }
-        }
+        Step::Line(said) => next_line(answer(
+            kind,
+            flags,
+            count,
+            slots,
+            roots,
+            queue,
+            control,
+            said,
+            out,
+            at,
+        )),
     }
 }
 
@@ -104,7 +107,7 @@ pub fn take_piece(
     p
 }
 
-// The end of the input: an unfinished line is answered at the front of `out`.
+// The end of the input: an unfinished line is answered at the front of `out`, where its 31 bytes are asked for as in `take_piece`.
 pub fn close(
     kind: &mut [u16],
     flags: &mut [u16],

@@ -9,7 +9,7 @@ returns c = advanced-held _ _ _ _ _ _ (rw (c .before .next .given .1) at (c .bef
 
 returns-2 : tie.Need-returns-2
 returns-2 c =
-    rw (c .start .ensures)
+    rw (c .next-line .ensures)
     (advanced-line _ _ _ _ _ _ _ _ _
     (rw (c .before .before .before .before .before .before .before .before .before .before .before .before .before .before .before .before .before .before .before .before .before .before .before .before .before .before .before .said .given .1) at (c .before .before .before .before .before .before .before .before .before .before .before .before .before .before .before .before .before .before .before .before .before .before .before .before .before .before .before .before .before .feed .ensures))
     (c .before .before .before .before .before .before .before .before .before .before .before .before .before .before .before .before .before .answer .ensures .0)
