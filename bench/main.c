@@ -5,7 +5,9 @@
 #include <stdlib.h>
 #include <string.h>
 
-enum { N = 1024 };
+#ifndef N
+#define N 1024
+#endif
 
 static VEK_STORAGE(N) heap;
 
@@ -103,22 +105,31 @@ static void graph(void)
         }
 }
 
-/* A shop's morning: baskets are made, filled, read, and thrown away. */
-static unsigned basket_calls(void)
+/* What becomes of a call of the morning: it is made, or written as a line for the program. */
+typedef void action(int op, size_t a, size_t b, size_t c);
+
+static void make(int op, size_t a, size_t b, size_t c) { measured(op, a, b, c); }
+
+static void write_line(int op, size_t a, size_t b, size_t c) { printf("%d,%zu,%zu,%zu\r\n", op, a, b, c); }
+
+/* A basket is made, filled, read, and thrown away; the number of calls. */
+static unsigned basket(action *one)
+{
+    one(1, 0, 1, 0);
+    for (unsigned line = 0; line < 8; line++)
+        one(1, 1, 2, 0), one(5, 0, line, 1), one(2, 1, 0, 0);
+    for (unsigned line = 0; line < 8; line++)
+        one(4, 2, 0, line), one(3, 3, 2, 0);
+    one(2, 2, 0, 0), one(2, 3, 0, 0), one(2, 0, 0, 0);
+    return 1 + 8 * 3 + 8 * 2 + 3;
+}
+
+/* A shop's morning. */
+static unsigned morning(action *one)
 {
     unsigned calls = 0;
-    for (unsigned round = 0; round < 20; round++) {
-        measured(1, 0, 1, 0), calls++;
-        for (unsigned line = 0; line < 8; line++) {
-            measured(1, 1, 2, 0), measured(5, 0, line, 1), measured(2, 1, 0, 0);
-            calls += 3;
-        }
-        for (unsigned line = 0; line < 8; line++) {
-            measured(4, 2, 0, line), measured(3, 3, 2, 0);
-            calls += 2;
-        }
-        measured(2, 2, 0, 0), measured(2, 3, 0, 0), measured(2, 0, 0, 0), calls += 3;
-    }
+    for (unsigned round = 0; round < 20; round++)
+        calls += basket(one);
     return calls;
 }
 
@@ -149,7 +160,10 @@ int main(int argc, char **argv)
     } else if (!strcmp(name, "clear-chain")) {
         chain(1), a = measured(2, 0, 0, 0);
     } else if (!strcmp(name, "basket")) {
-        calls = basket_calls();
+        calls = morning(make);
+    } else if (!strcmp(name, "lines")) {
+        morning(write_line);
+        return 0;
     } else {
         return 2;
     }

@@ -12,6 +12,8 @@ import tempfile
 
 TOP = pathlib.Path(__file__).resolve().parent.parent
 ARCHIVE = TOP / "target" / "staticlib" / "libheap_c.a"
+PROGRAM = TOP / "target" / "bin" / "counter"
+LINES = 100_000
 
 # What is measured, and the most that the proved heap may take of the C version.
 CASES = [
@@ -25,19 +27,27 @@ CASES = [
     ("collect-graph", "COLLECT, a random graph", 1.00),
     ("clear-chain", "CLEAR that frees 1,024", 1.00),
 ]
+UNCHECKED = 700  # the most instructions of a basket call without its check
 
 
-def callgrind(program, folder, impl, case):
-    """Instructions inside `measured`, the program's numbers, and the inclusive counts by function."""
-    out = folder / f"{impl}-{case}.callgrind"
-    run = subprocess.run(
-        ["valgrind", "--tool=callgrind", f"--callgrind-out-file={out}", "--toggle-collect=measured", str(program), impl, case],
-        capture_output=True,
-        text=True,
-        check=True,
-    )
-    total = int(re.search(r"Collected : (\d+)", run.stderr).group(1))
-    return total, [int(x) for x in run.stdout.split()], out
+def built(folder, cells):
+    program = folder / f"bench-{cells}"
+    sources = [TOP / "bench" / "main.c", TOP / "bench" / "heap.c"]
+    subprocess.run(["gcc", "-O2", "-g", f"-DN={cells}", "-o", program, *sources, ARCHIVE], check=True)
+    return program
+
+
+def callgrind(folder, command, toggle=(), stdin=subprocess.DEVNULL):
+    """The instructions that were counted, what the program says, and callgrind's file."""
+    out = folder / "callgrind.out"
+    run = subprocess.run(["valgrind", "--tool=callgrind", f"--callgrind-out-file={out}", *toggle, *command], capture_output=True, text=True, check=True, stdin=stdin)
+    return int(re.search(r"Collected : (\d+)", run.stderr).group(1)), run.stdout, out
+
+
+def measured(folder, program, heap, case):
+    """Instructions inside `measured`, the program's numbers, and callgrind's file."""
+    total, said, out = callgrind(folder, [program, heap, case], ["--toggle-collect=measured"])
+    return total, [int(x) for x in said.split()], out
 
 
 def inclusive(out, pattern):
@@ -46,23 +56,41 @@ def inclusive(out, pattern):
     return sum(int(m.group(1).replace(",", "")) for m in re.finditer(r"^\s*([\d,]+) .*", text, re.M) if re.search(pattern, m.group(0)))
 
 
+def compare(folder):
+    """A row for each case; the number of goals that are missed."""
+    program, missed = built(folder, 1024), 0
+    print(f"{'1,024 cells':<50} {'C':>9} {'proved':>9} {'ratio':>6} {'goal':>6}")
+    for case, words, goal in CASES:
+        c, said_c, _ = measured(folder, program, "c", case)
+        p, said_p, _ = measured(folder, program, "proved", case)
+        assert said_c == said_p, (case, said_c, said_p)
+        missed += p > goal * c
+        print(f"{words:<50} {c:>9,} {p:>9,} {p / c:>6.2f} {goal:>6.2f}")
+    total, said, out = measured(folder, program, "proved", "basket")
+    unchecked = (total - inclusive(out, r"calls_admission::admit")) // said[0]
+    missed += unchecked > UNCHECKED
+    print(f"{'a basket call without the check, on average':<50} {'':>9} {unchecked:>9,} {'':>6} {UNCHECKED:>6}")
+    return missed
+
+
+def program_lines(folder):
+    """What a line of the program costs, beside its call alone."""
+    program = built(folder, 256)
+    total, said, _ = measured(folder, program, "proved", "basket")
+    morning = subprocess.run([program, "proved", "lines"], capture_output=True, check=True).stdout.splitlines(keepends=True)
+    lines = folder / "lines.csv"
+    lines.write_bytes(b"".join(morning[i % len(morning)] for i in range(LINES)))
+    with lines.open() as stdin:
+        whole, _, _ = callgrind(folder, [PROGRAM], stdin=stdin)
+    print(f"{'256 cells':<50} {'call':>9} {'line':>9} {'ratio':>6}")
+    print(f"{'a line of the program, of 100,000, on average':<50} {total // said[0]:>9,} {whole // LINES:>9,} {whole / LINES / (total / said[0]):>6.2f}")
+
+
 def main():
-    subprocess.run(["make", ARCHIVE.relative_to(TOP)], cwd=TOP, check=True, stdout=subprocess.DEVNULL)
+    subprocess.run(["make", *(path.relative_to(TOP) for path in (ARCHIVE, PROGRAM))], cwd=TOP, check=True, stdout=subprocess.DEVNULL)
     with tempfile.TemporaryDirectory() as name:
-        folder = pathlib.Path(name)
-        program = folder / "bench"
-        subprocess.run(["gcc", "-O2", "-g", "-o", str(program), str(TOP / "bench" / "main.c"), str(TOP / "bench" / "heap.c"), str(ARCHIVE)], check=True)
-        missed = 0
-        print(f"{'case':<50} {'C':>9} {'proved':>9} {'ratio':>6} {'goal':>6}")
-        for case, words, goal in CASES:
-            c, said_c, _ = callgrind(program, folder, "c", case)
-            p, said_p, _ = callgrind(program, folder, "proved", case)
-            assert said_c == said_p, (case, said_c, said_p)
-            missed += p > goal * c
-            print(f"{words:<50} {c:>9,} {p:>9,} {p / c:>6.2f} {goal:>6.2f}")
-        total, said, out = callgrind(program, folder, "proved", "basket")
-        check = inclusive(out, r"calls_admission::admit")
-        print(f"{'a basket call without the check, on average':<50} {'':>9} {(total - check) // said[0]:>9,}")
+        missed = compare(pathlib.Path(name))
+        program_lines(pathlib.Path(name))
     print("all goals reached" if missed == 0 else f"{missed} goals missed")
     return 0
 
