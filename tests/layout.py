@@ -16,7 +16,7 @@ PLACES = [
     r"README\.md",
     r"Makefile",
     r"crates\.txt",
-    r"\.gitignore",
+    r"\.git(ignore|attributes)",
     r"\.ci/run",
     r"docs/[A-Z]+\.md",
     r"docs/changes/Q-\d\d\.md",
