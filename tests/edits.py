@@ -3,8 +3,9 @@
 
 `rt must-fail` proves a whole crate anew for each edit, and looks at no other crate. Here are
 - tests/edits/CRATE/: edits of one crate, in a copy of the repository that `rt check` has proved. They share an
-  incremental folder, so that after the first edit only what rests on the next is checked again. Where functions
-  don't call each other one edit may make several wrong; the line 'refuses:' names them, and each must be refused.
+  incremental folder, so that after the first edit only what rests on the next is checked again; at the end the
+  crate as it stands must be proved there. Where functions don't call each other one edit may make several wrong;
+  the line 'refuses:' names them, and each must be refused.
 - tests/edits/across/: edits of the rules that another crate's theorems refuse, which the line 'refused-by:' names.
   Everything below that crate must still be proved.
 
@@ -104,7 +105,11 @@ def crate_edits(crate):
     edits = sorted((EDITS / crate).glob("*.edit"))
     with tempfile.TemporaryDirectory() as folder:
         copy = copied(folder, proved=True)
-        return [(f"{crate}/{path.stem}", *within(crate, path, copy)) for path in edits]
+        outcomes = [(f"{crate}/{path.stem}", *within(crate, path, copy)) for path in edits]
+        # A copy that could not be proved as it stands would refuse every edit, and show nothing.
+        if "logic=proved" not in dev(copy, crate):
+            return [(name, False, "the copy without the edit is not proved") for name, _, _ in outcomes]
+        return outcomes
 
 
 def across_edit(path):
