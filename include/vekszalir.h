@@ -19,14 +19,17 @@
  * a null pointer), and nobody else writes them during a call. Everything else is the heap's business: any
  * lengths, any contents and any numbers are answered, with a refusal where something is wrong.
  *
- * What you get, proved for every list of calls from a vek_fresh that is done: no call frees a cell that your
- * roots or the queue still reach; after each vek_collect that is done the used cells are just the reached
- * ones; and without a sweep the same holds exactly when no unreached cells refer to each other in a ring.
+ * What you get, proved for every list of calls from a vek_fresh that is done, if nobody else writes the tables
+ * in between: no call frees a cell that your roots or the queue still reach; after each vek_collect that is
+ * done the used cells are just the reached ones; and without a sweep the same holds exactly when no unreached
+ * cells refer to each other, or one to itself, in a ring. Exactly then, too, a vek_collect made next frees and
+ * queues nothing.
  *
  * A call answers four numbers. `refused` is VEK_DONE or why nothing was done; a refused call changes no entry
  * of any table and answers freed 0, queued 0, cell 0. `freed` is the number of cells that were used before
  * the call and are free after it, `queued` the number of cells that the call put into the queue, and `cell`
- * is the new cell of vek_new. Of several reasons for a refusal the lowest number is given.
+ * is the new cell of vek_new; vek_fresh answers 0 for all of these. Of several reasons for a refusal the
+ * lowest number is given.
  */
 #ifndef VEKSZALIR_H
 #define VEKSZALIR_H
@@ -114,9 +117,9 @@ vek_answer vek_load(VEK_TABLES, size_t to_root, size_t object_root, size_t slot)
 /* A slot of the object in a root takes what another root holds. Refused: SIZE, DAMAGED, NUMBER, EMPTY, KIND. */
 vek_answer vek_store(VEK_TABLES, size_t object_root, size_t slot, size_t from_root);
 
-/* A sweep: objects with a finalizer that nothing reaches join the queue, with all that they reach; every other
-   cell that nothing reaches is freed; a finalized object that is reached was rescued, and may be finalized again.
-   Allowed while a finalizer runs. Refused: SIZE, DAMAGED. */
+/* A sweep: objects that neither roots nor queue reach and whose finalizer is still to run join the queue, and all
+   that they reach stays; every other cell that is not reached is freed; a finalized object that stays was rescued,
+   and its finalizer may run again. Allowed while a finalizer runs. Refused: SIZE, DAMAGED. */
 vek_answer vek_collect(VEK_TABLES);
 
 /* The queue's head is placed in an empty root for its finalizer, which you then run. The queue stays.

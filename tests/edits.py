@@ -1,20 +1,29 @@
 #!/usr/bin/env python3
-"""Wrong edits that the proofs must refuse, beyond those that `rt must-fail` tries.
+"""Wrong edits that the proofs must refuse, beyond those that `rt must-fail` tries, and what each refusal is worth.
 
 `rt must-fail` proves a whole crate anew for each edit, and looks at no other crate. Here are
 - tests/edits/CRATE/: edits of one crate, in a copy of the repository that `rt check` has proved. They share an
   incremental folder, so that after the first edit only what rests on the next is checked again; at the end the
   crate as it stands must be proved there. Where functions don't call each other one edit may make several wrong;
   the line 'refuses:' names them, and each must be refused.
-- tests/edits/across/: edits of the rules that another crate's theorems refuse, which the line 'refused-by:' names.
-  Everything below that crate must still be proved.
+- tests/edits/across/: edits of the rules that another crate's theorems refuse, which the line 'refused-by:' names,
+  tried in the same way. Everything below that crate must still be proved.
 
 An edit has the lines 'file:', 'old:' and 'new:' of `rt must-fail`; paths start at the crate, or, across crates, at
-the top of the repository. The last line printed is 'N passed, M failed'.
+the top of the repository. The line 'against:' names the public contracts that an edit of the code goes against. An
+edit keeps the code's shape, so that there is the same to prove of it; the line 'shape:' says why, where it does not.
+The line 'harmless:' is that of a control: a rewriting that changes no answer, which may be refused, but not for a fact.
+
+Each refusal is of a kind (tests/refusals.py). Those of crates/CRATE/must-fail/ are read from the logs that `rt ci`
+left, and not tried again; target/edits/ has the others'. At the end stand each public contract with fewer than two
+edits that refute a fact, of which docs/ARCHITECTURE.md has to say why, and the count of each kind. The last line
+printed is 'N passed, M failed'.
 
 Usage: tests/edits.py [CRATE or across]..., all of them by default.
 """
+import collections
 import concurrent.futures
+import itertools
 import os
 import pathlib
 import shutil
@@ -22,55 +31,66 @@ import subprocess
 import sys
 import tempfile
 
+import contracts
+import refusals
+
 TOP = pathlib.Path(__file__).resolve().parent.parent
 EDITS = TOP / "tests" / "edits"
+MUST_FAIL_LOGS = TOP / "target" / "must-fail"
+LOGS = TOP / "target" / "edits"
 ACROSS = "across"
+
+# An edit: the functions or the crate that must refuse it, the contracts it goes against, why the code's shape changes or why the edit is
+# harmless, where that is so, and the replacements (file, old, new).
+Edit = collections.namedtuple("Edit", "refusers against shape harmless pairs")
+# What became of an edit: whether it is as it must be (None where `rt must-fail` has said so already), words, the kinds of its refusals, and
+# the kind for each contract.
+Outcome = collections.namedtuple("Outcome", "name passed words kinds against")
+
+
+def failure(name, words):
+    return Outcome(name, False, words, [], {})
 
 
 def read(path):
-    """The names after 'refused-by:' or 'refuses:', if any, and the replacements (file, old, new)."""
-    names, file, old, pairs = [], None, None, []
+    said, file, old, pairs = {}, None, None, []
     for line in path.read_text().splitlines():
-        if line.startswith(("refused-by: ", "refuses: ")):
-            names = line.split()[1:]
-        elif line.startswith("file: "):
-            file = line.removeprefix("file: ")
-        elif line.startswith("old: "):
-            old = line.removeprefix("old: ")
+        key, _, value = line.partition(": ")
+        if key in ("refused-by", "refuses", "against", "shape", "harmless"):
+            said[key] = value
+        elif key == "file":
+            file = value
+        elif key == "old":
+            old = value
         elif line.startswith("new:"):
             pairs.append((file, old, line.removeprefix("new:").removeprefix(" ")))
     if not pairs or any(None in pair for pair in pairs):
         raise ValueError(f"{path.name}: it wants 'file:', 'old:' and 'new:' lines")
-    return names, pairs
+    refusers = said.get("refuses", said.get("refused-by", "")).split()
+    return Edit(refusers, said.get("against", "").split(), said.get("shape"), said.get("harmless"), pairs)
 
 
-def apply(base, pairs):
-    """Makes the replacements below `base`; returns the texts that stood there, to put back."""
-    before = {}
+def edited(base, pairs):
+    """The files below `base` that an edit changes, with their texts before and after."""
+    texts = {}
     for file, old, new in pairs:
-        target = base / file
-        text = target.read_text()
-        if text.count(old) != 1:
-            raise ValueError(f"an 'old:' text stands {text.count(old)} times in {file}")
-        before.setdefault(target, text)
-        target.write_text(text.replace(old, new))
-    return before
+        before, after = texts.get(base / file) or ((base / file).read_text(),) * 2
+        if after.count(old) != 1:
+            raise ValueError(f"an 'old:' text stands {after.count(old)} times in {file}")
+        texts[base / file] = before, after.replace(old, new)
+    return texts
 
 
-def copied(folder, proved):
-    """A copy of the crates as a repository of its own, with what `rt check` has proved if asked."""
+def copied(folder):
+    """A copy of the crates as a repository of its own, with what `rt check` has proved."""
     copy = pathlib.Path(folder) / "copy"
     copy.mkdir()
     shutil.copytree(TOP / "crates", copy / "crates")
     shutil.copy(TOP / "crates.txt", copy)
-    for part in ("rlib", "stamp") if proved else ():
+    for part in ("rlib", "stamp"):
         shutil.copytree(TOP / "target" / part, copy / "target" / part)
     subprocess.run(["git", "init", "-q", str(copy)], check=True)
     return copy
-
-
-def first_error(said):
-    return next((line.split("/copy/crates/")[-1] for line in said.splitlines() if ": error: " in line), "not proved")
 
 
 def dev(copy, crate):
@@ -78,73 +98,157 @@ def dev(copy, crate):
     return run.stdout + run.stderr
 
 
-def itself_refused(function, lines):
-    """Whether the prover refuses a function for its own sake, and not for one that it calls; "no proof" is said where it looked for one."""
-    return any(line == f"fn {function}: not proved" or line.startswith(f"fn {function}: no proof: ") for line in lines)
+def keep(name, said):
+    """Leaves what the prover said of an edit, whole."""
+    log = LOGS / f"{name}.log"
+    log.parent.mkdir(parents=True, exist_ok=True)
+    log.write_text(said)
+
+
+def weighed(name, edit, functions, said):
+    """The outcome of an edit that was refused: of which kind, for each of `functions` or as a whole, and for each contract that it goes
+    against. Where the public function itself is proved, a private one that it rests on is refused in its place."""
+    refused = refusals.refused(said)
+    whole = refusals.kind(said)
+    kinds = {function: refused[function] for function in functions} or {"": whole}
+    words = ", ".join(f"{function} {kind}".strip() for function, kind in kinds.items())
+    private = [kind for function, kind in refused.items() if function not in contracts.public()]
+    against = {contract: refused.get(contract) or refusals.weakest(private) for contract in edit.against}
+    keeps = refusals.SHAPE not in kinds.values()
+    why = f" ({edit.shape})" if edit.shape else "" if keeps else " AND NOTHING SAYS WHY"
+    return Outcome(name, keeps == (edit.shape is None), f"{words}{why}: {refusals.first_error(said)[:140]}", list(kinds.values()), against)
+
+
+def control(name, edit, said):
+    """The outcome of a harmless rewriting: if it is refused, then not for a fact."""
+    kind = refusals.kind(said) if "logic=not-proved" in said.splitlines() else "accepted"
+    return Outcome(name, kind not in refusals.REFUTED, f"harmless ({edit.harmless}), and {kind}", [], {})
+
+
+def said_of(name, edit, base, crate, copy):
+    """What the prover says of a crate while an edit of the files below `base` is made."""
+    texts = edited(base, edit.pairs)
+    for target, (_, after) in texts.items():
+        target.write_text(after)
+    said = dev(copy, crate)
+    keep(name, said)
+    for target, (before, _) in texts.items():
+        target.write_text(before)
+    return said
 
 
 def within(crate, path, copy):
-    """What became of one edit of a crate: whether it was refused, and in which words."""
-    functions, pairs = read(path)
-    before = apply(copy / "crates" / crate, pairs)
-    said = dev(copy, crate)
-    for target, text in before.items():
-        target.write_text(text)
-    lines = said.splitlines()
-    accepted = [name for name in functions if not itself_refused(f"{crate}::{name}", lines)]
-    if "logic=not-proved" not in lines or accepted:
-        return False, f"NOT REFUSED {accepted}: {said[-2000:]}"
-    error = first_error(said)
-    if "has no `Need-" in error:
-        return False, f"refused for the code's shape and not for a fact: {error}"
-    return True, f"refused, as it must be: {error[:140]}"
+    """What became of one edit of a crate."""
+    name, edit = f"{crate}/{path.stem}", read(path)
+    said = said_of(name, edit, copy / "crates" / crate, crate, copy)
+    if edit.harmless:
+        return control(name, edit, said)
+    functions = [f"{crate}::{function}" for function in edit.refusers]
+    accepted = [function for function in functions if function not in refusals.refused(said)]
+    if "logic=not-proved" not in said.splitlines() or accepted:
+        return failure(name, f"NOT REFUSED {accepted}: {said[-2000:]}")
+    return weighed(name, edit, functions, said)
 
 
-def crate_edits(crate):
-    """Each edit of a crate, as (its name, whether it was refused, words)."""
-    edits = sorted((EDITS / crate).glob("*.edit"))
+def across(path, copy):
+    """What became of one edit across crates; those below the one that refuses it are proved."""
+    name, edit = f"{ACROSS}/{path.stem}", read(path)
+    (refuser,) = edit.refusers
+    said = said_of(name, edit, copy, refuser, copy)
+    if "logic=not-proved" not in said.splitlines() or "NOT PROVED" in said:
+        return failure(name, f"NOT REFUSED by {refuser}: {said[-2000:]}")
+    return weighed(name, edit, [], said)
+
+
+def in_one_copy(paths, attempt, crates):
+    """What became of each edit, tried one after another in a copy in which the crates are proved when none is made."""
     with tempfile.TemporaryDirectory() as folder:
-        copy = copied(folder, proved=True)
-        outcomes = [(f"{crate}/{path.stem}", *within(crate, path, copy)) for path in edits]
+        copy = copied(folder)
+        outcomes = [attempt(path, copy) for path in paths]
         # A copy that could not be proved as it stands would refuse every edit, and show nothing.
-        if "logic=proved" not in dev(copy, crate):
-            return [(name, False, "the copy without the edit is not proved") for name, _, _ in outcomes]
+        unedited = [dev(copy, crate) for crate in crates]
+        if any("logic=proved" not in said or "logic=not-proved" in said for said in unedited):
+            return [failure(outcome.name, "the copy without the edit is not proved") for outcome in outcomes]
         return outcomes
 
 
-def across_edit(path):
-    """One edit across crates, as a list of one: (its name, whether it was refused, words)."""
-    (refused_by,), pairs = read(path)
-    with tempfile.TemporaryDirectory() as folder:
-        copy = copied(folder, proved=False)
-        apply(copy, pairs)
-        run = subprocess.run(["rt", "check", refused_by], cwd=copy, capture_output=True, text=True)
-        log = copy / "target" / "log" / f"{refused_by}.out"
-        said = log.read_text() if log.exists() else run.stdout + run.stderr
-    refused = run.returncode != 0 and "logic=not-proved" in said
-    words = f"refused by {refused_by}, as it must be: {first_error(said)[:140]}" if refused else f"NOT REFUSED by {refused_by}: {said[-2000:]}"
-    return [(f"{ACROSS}/{path.stem}", refused, words)]
+def crate_edits(crate):
+    return in_one_copy(sorted((EDITS / crate).glob("*.edit")), lambda path, copy: within(crate, path, copy), [crate])
+
+
+def across_edits(_):
+    paths = sorted((EDITS / ACROSS).glob("*.edit"))
+    return in_one_copy(paths, across, sorted({name for path in paths for name in read(path).refusers}))
+
+
+def logged(crate, path):
+    """What `rt must-fail` made of an edit of a crate, from the log that it left; it has counted the edit itself."""
+    name, edit, base, folder = f"{crate}/{path.stem}", read(path), TOP / "crates" / crate, MUST_FAIL_LOGS / crate / path.stem
+    texts = {folder / target.relative_to(base): after for target, (_, after) in edited(base, edit.pairs).items()}
+    log = folder / ".log"
+    said = log.read_text() if log.exists() else ""
+    if "logic=not-proved" not in said.splitlines() or any(not left.exists() or left.read_text() != text for left, text in texts.items()):
+        return Outcome(name, None, "no log of `rt must-fail` for it as it stands", [], dict.fromkeys(edit.against, None))
+    outcome = weighed(name, edit, [], said)
+    return outcome._replace(passed=None if outcome.passed else False)
+
+
+def faults(crate, path):
+    """What is wrong with the words of an edit: one of the code names the public contracts that it goes against."""
+    edit = read(path)
+    public = contracts.public()
+    for name in edit.against:
+        if name not in public:
+            yield False, f"{crate}/{path.stem}: there is no public contract {name}"
+    aimed = edit.against or edit.harmless or all(file.startswith("specs/") for file, _, _ in edit.pairs)
+    if not aimed and any(name.startswith(f"{crate}::") for name in public):
+        yield False, f"{crate}/{path.stem}: it does not say which public contract it goes against"
 
 
 def replacements(crate):
     """How much there is to refuse; the crates with most begin."""
-    return sum(len(read(path)[1]) for path in (EDITS / crate).glob("*.edit"))
+    return sum(len(read(path).pairs) for path in (EDITS / crate).glob("*.edit"))
+
+
+def tried(wanted):
+    """Tries the edits; yields what became of each."""
+    folders = sorted((w for w in wanted if (EDITS / w).is_dir()), key=replacements, reverse=True)
+    jobs = [(across_edits if folder == ACROSS else crate_edits, folder) for folder in folders]
+    with concurrent.futures.ThreadPoolExecutor(max_workers=os.cpu_count()) as pool:
+        for done in concurrent.futures.as_completed([pool.submit(*job) for job in jobs]):
+            yield from done.result()
+
+
+def judged(wanted, outcomes):
+    """Each public contract of the crates: whether two edits refute a fact, or a word says why not."""
+    reasons = contracts.excused()
+    for name in contracts.public():
+        if name.split("::")[0] in wanted:
+            kinds = [outcome.against[name] for outcome in outcomes if name in outcome.against]
+            yield contracts.judge(name, sum(kind in refusals.REFUTED for kind in kinds), kinds.count(None), reasons.get(name))
+    for name in reasons:
+        if name not in contracts.public():
+            yield False, f"{name} is excused, and there is no such public contract"
 
 
 def main():
-    wanted = sys.argv[1:] or sorted(p.name for p in EDITS.iterdir())
-    crates = sorted((w for w in wanted if w != ACROSS), key=replacements, reverse=True)
+    wanted = sys.argv[1:] or sorted({p.name for p in (TOP / "crates").iterdir()} | {ACROSS})
     subprocess.run(["rt", "check"], cwd=TOP, check=True, stdout=subprocess.DEVNULL)
-    jobs = [(crate_edits, crate) for crate in crates]
-    jobs += [(across_edit, path) for path in sorted((EDITS / ACROSS).glob("*.edit")) if ACROSS in wanted]
-    passed = failed = 0
-    with concurrent.futures.ThreadPoolExecutor(max_workers=os.cpu_count()) as pool:
-        for outcome in concurrent.futures.as_completed([pool.submit(*job) for job in jobs]):
-            for name, refused, words in outcome.result():
-                passed, failed = passed + refused, failed + (not refused)
-                print(f"{name}: {words}", flush=True)
-    print(f"{passed} passed, {failed} failed")
-    return 1 if failed or not passed else 0
+    must_fail = [(crate, path) for crate in wanted for path in sorted((TOP / "crates" / crate / "must-fail").glob("*.edit"))]
+    written = must_fail + [(crate, path) for crate in wanted for path in sorted((EDITS / crate).glob("*.edit"))]
+    outcomes = []
+    for outcome in itertools.chain((logged(*edit) for edit in must_fail), tried(wanted)):
+        outcomes.append(outcome)
+        print(f"{outcome.name}: {outcome.words}", flush=True)
+    verdicts = [*itertools.chain.from_iterable(faults(*edit) for edit in written), *judged(wanted, outcomes)]
+    for words in filter(None, (words for _, words in verdicts)):
+        print(words)
+    kinds = collections.Counter(kind for outcome in outcomes for kind in outcome.kinds)
+    for kind in (*refusals.KINDS, refusals.SHAPE):
+        print(f"{kind}: {kinds[kind]}")
+    results = [outcome.passed for outcome in outcomes] + [good for good, _ in verdicts]
+    print(f"{results.count(True)} passed, {results.count(False)} failed")
+    return 1 if False in results or True not in results else 0
 
 
 if __name__ == "__main__":

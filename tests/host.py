@@ -60,9 +60,9 @@ def installed(folder):
     words = run("pkg-config", "--cflags", "--libs", "vekszalir", env={**os.environ, "PKG_CONFIG_PATH": f"{prefix}/lib/pkgconfig"})
     yield "make install", made.stderr + words.stderr, made.returncode == 0 and words.returncode == 0
     yield example("example by pkg-config", folder, C, *words.stdout.split())
-    run("make", "uninstall", f"PREFIX={prefix}", cwd=TOP)
+    gone = run("make", "uninstall", f"PREFIX={prefix}", cwd=TOP)
     left = [str(path) for path in prefix.rglob("*") if path.is_file()]
-    yield "make uninstall", " ".join(left), not left
+    yield "make uninstall", " ".join([gone.stderr, *left]), gone.returncode == 0 and not left
 
 
 def main():

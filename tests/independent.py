@@ -17,8 +17,10 @@ PROGRAM = TOP / "target" / "bin" / "counter"
 sys.path.insert(0, str(HERE))
 sys.dont_write_bytecode = True  # nothing is left in the source folders
 import edits  # noqa: E402
+import failing  # noqa: E402
 import feeding  # noqa: E402
 import inputs  # noqa: E402
+import known  # noqa: E402
 
 SEEDS = (1, 2, 3, 4)
 INPUT_SEED = 1
@@ -68,50 +70,54 @@ def compare_heaps(folder):
 
 
 def first_difference(command, cases):
-    """What the program answers otherwise than expected, in words; None if nothing."""
+    """The first case that the program answers otherwise than expected, and how it ended; None if there is none."""
     for name, pieces, expected in cases:
-        status, output = feeding.run(command, pieces)
-        if (status, output) != (0, expected):
-            return f"{name}: status {status}, {output[:200]!r}, not {expected[:200]!r}; input {b''.join(pieces)[:200]!r}"
+        outcome = feeding.run(command, pieces)
+        if outcome != feeding.Outcome(0, expected):
+            return (name, pieces, expected), outcome
     return None
 
 
 def whole_cases(reference):
-    """Each input at once, with the output of the reference."""
-    return [("whole", [data], feeding.run(reference, [data])[1]) for data in inputs.all_inputs(INPUT_SEED)]
+    """Each input at once, with the output of the reference, which says nothing else and ends well."""
+    cases = []
+    for data in inputs.all_inputs(INPUT_SEED):
+        outcome = feeding.run(reference, [data])
+        if (outcome.status, outcome.errors) != (0, b""):
+            raise RuntimeError(f"the independent program: {outcome}; input {data[:200]!r}")
+        cases.append(("whole", [data], outcome.output))
+    return cases
 
 
 def cut_cases(cases):
     return [(name, pieces, expected) for i, (_, (data,), expected) in enumerate(cases) for name, pieces in feeding.pieces_for(data, i)]
 
 
-def literal_cases():
-    """Outputs that document 01 gives without any program."""
-    cases = [(b"", inputs.HEADER), (inputs.EXAMPLE, inputs.EXAMPLE_OUTPUT), *inputs.bad_alone()]
-    return [("literal", [data], expected) for data, expected in cases]
+def known_cases():
+    return [("known", [data], expected) for data, expected in known.known_outputs()]
 
 
 def no_difference(name, command, cases):
     difference = first_difference(command, cases)
     if difference:
-        print(difference)
+        (case, pieces, expected), outcome = difference
+        print(f"{case}: {outcome}, not {expected[:200]!r}; input {b''.join(pieces)[:200]!r}")
     return name, difference is None
 
 
-def ends_when_closed(command):
-    """A program that nobody reads ends, whether a signal tells it or the failing write."""
-    long = b"1,0,1,0\r\n2,0,0,0\r\n" * 20_000
-    for taken in (0, 1, 5000):
-        for heed_sigpipe in (True, False):
-            status = feeding.run_closed(command, long, taken, heed_sigpipe)
-            yield f"program, output closed after {taken} bytes, SIGPIPE {'heeded' if heed_sigpipe else 'ignored'}", status is not None
+def ends_as_promised(command):
+    """What the program does where its input can't be read or its output can't be written."""
+    for name, outcome, wanted in failing.outcomes(command):
+        if outcome != wanted:
+            print(f"{name}: {outcome}, not {wanted}")
+        yield f"program, {name}", outcome == wanted
 
 
 def compare_programs(reference, command, cases):
-    yield no_difference("independent program, known outputs", reference, literal_cases())
-    yield no_difference("program, known outputs", command, literal_cases())
+    yield no_difference("independent program, known outputs", reference, known_cases())
+    yield no_difference("program, known outputs", command, known_cases())
     yield no_difference("program, all inputs, cut in every way", command, cut_cases(cases))
-    yield from ends_when_closed(command)
+    yield from ends_as_promised(command)
 
 
 def apply_edit(text, pairs):
@@ -126,32 +132,40 @@ def apply_edit(text, pairs):
 
 
 def edited_object(path, folder):
-    _, pairs = edits.read(path)
+    pairs = edits.read(path).pairs
     name = pairs[0][0]
     source = folder / f"{path.stem}.c"
     source.write_text(apply_edit((HERE / name).read_text(), pairs))
     return name, build(folder / f"{path.stem}.o", [source], [*LENIENT, "-c"])
 
 
+def build_compare(objects, target):
+    return build(target, [o for source, o in objects.items() if source != "program.c"], [], [ARCHIVE])
+
+
+def build_program(objects, target):
+    driver = {source.name for source in driver_sources()}
+    return [build(target, [o for source, o in objects.items() if source not in driver], [])]
+
+
 def heap_edit_caught(objects, target):
     """Caught by a difference that is reported, not by a crash or a hang."""
-    status, report = run_driver(build(target, objects, [], [ARCHIVE]), SEEDS[0])
+    status, report = run_driver(build_compare(objects, target), SEEDS[0])
     return status == 1 and report.startswith("difference:")
 
 
 def program_edit_caught(objects, target, cases):
     """Caught by another output, not by a crash or a hang."""
-    difference = first_difference([build(target, objects, [])], cases)
-    return difference is not None and ": status 0," in difference
+    difference = first_difference(build_program(objects, target), cases)
+    return difference is not None and difference[1].status == 0
 
 
 def edit_caught(path, folder, objects, cases):
     name, edited = edited_object(path, folder)
-    others = {source: o for source, o in objects.items() if source != name}
-    driver = {source.name for source in driver_sources()}
+    with_edit = {**objects, name: edited}
     if name == "program.c":
-        return program_edit_caught([edited, *(o for source, o in others.items() if source not in driver)], folder / path.stem, cases)
-    return heap_edit_caught([edited, *(o for source, o in others.items() if source != "program.c")], folder / path.stem)
+        return program_edit_caught(with_edit, folder / path.stem, cases)
+    return heap_edit_caught(with_edit, folder / path.stem)
 
 
 def try_edit(path, folder, objects, cases):
@@ -161,8 +175,15 @@ def try_edit(path, folder, objects, cases):
         return f"edit {path.stem}: {trouble}", False
 
 
+def without_edit(folder, objects, cases):
+    """What an edit is put into shows no difference of its own."""
+    yield "no edit, heap", run_driver(build_compare(objects, folder / "compare"), SEEDS[0])[0] == 0
+    yield no_difference("no edit, program", build_program(objects, folder / "program"), cases)
+
+
 def catch_edits(folder, cases):
     objects = build_objects(folder, [*driver_sources(), *heap_sources(), HERE / "program.c"])
+    yield from without_edit(folder, objects, cases)
     paths = sorted((HERE / "edits").glob("*.edit"))
     with concurrent.futures.ThreadPoolExecutor(2) as pool:
         yield from pool.map(lambda path: try_edit(path, folder, objects, cases), paths)

@@ -55,7 +55,7 @@ def unlisted(_):
 
 def wordless(files):
     edits = [f for f in files if f.endswith(".edit")]
-    return [f"{f} does not say what it gets wrong" for f in edits if re.match(r"[a-z-]+: ", (TOP / f).read_text())]
+    return [f"{f} does not say what it gets wrong" for f in edits if not re.match(r"(?![a-z-]+: )\S+ \S", (TOP / f).read_text())]
 
 
 def main():

@@ -46,8 +46,9 @@ static size_t depth(void)
     return STACK - untouched;
 }
 
-static void measure(const char *name, void (*run)(void))
+static void measure(const char *name, void (*run)(void), unsigned freed)
 {
+    answer.refused = VEK_SIZE;
     memset(stack, PAINT, STACK);
     getcontext(&there);
     there.uc_stack.ss_sp = stack;
@@ -57,29 +58,26 @@ static void measure(const char *name, void (*run)(void))
     swapcontext(&here, &there);
     size_t deep = depth();
     printf("stack of %s: %zu bytes\n", name, deep);
-    if (answer.refused != VEK_DONE || deep == 0 || deep >= LIMIT) {
-        printf("stack of %s: refused %u, or not under %d bytes\n", name, answer.refused, LIMIT);
+    if (answer.refused != VEK_DONE || answer.freed != freed || deep == 0 || deep >= LIMIT) {
+        printf("stack of %s: refused %u, freed %u, or not under %d bytes\n", name, answer.refused, answer.freed, LIMIT);
         failed = 1;
     }
 }
 
 int main(void)
 {
-    chain(N - 1, 1), measure("new", run_new);
-    chain(N, 1), measure("copy", run_copy);
-    chain(N, 1), measure("load", run_load);
-    chain(N, 1), measure("store", run_store);
-    chain(N, 1), measure("collect, a chain up", run_collect);
-    chain(N, 0), measure("collect, a chain down", run_collect);
-    chain(N, 1), heap.roots[0] = 0, heap.count[0] = 1, heap.slots[8 * (N - 1)] = 1, measure("collect, a loose ring", run_collect);
-    chain(N, 1), measure("clear", run_clear);
+    chain(N - 1, 1), measure("new", run_new, 0);
+    chain(N, 1), measure("copy", run_copy, 0);
+    chain(N, 1), measure("load", run_load, 0);
+    chain(N, 1), measure("store", run_store, 0);
+    chain(N, 1), measure("collect, a chain up", run_collect, 0);
+    chain(N, 0), measure("collect, a chain down", run_collect, 0);
+    chain(N, 1), heap.roots[0] = 0, heap.count[0] = 1, heap.slots[8 * (N - 1)] = 1;
+    measure("collect, a loose ring", run_collect, N);
+    chain(N, 1), measure("clear", run_clear, N);
     /* the chain's head waits in the queue, and FINISH frees the whole chain */
     chain(N, 1), heap.roots[0] = 0, heap.queue[0] = 1, heap.control[0] = 1, heap.flags[0] = 1;
-    measure("start", run_start), measure("finish", run_finish);
-    if (answer.freed != N) {
-        printf("finish freed %u, not %d\n", answer.freed, N);
-        failed = 1;
-    }
-    measure("fresh", run_fresh);
+    measure("start", run_start, 0), measure("finish", run_finish, N);
+    measure("fresh", run_fresh, 0);
     return failed;
 }

@@ -8,8 +8,18 @@ import subprocess
 import tempfile
 import termios
 import time
+import typing
 
 PATIENCE = 20.0  # seconds for a program that should have ended
+
+
+class Outcome(typing.NamedTuple):
+    status: int | None
+    output: bytes
+    errors: bytes = b""  # what stands on standard error
+
+    def __str__(self):
+        return f"status {self.status}, {self.output[:200]!r}, on standard error {self.errors[:200]!r}"
 
 
 def wait_until_read(pipe, process):
@@ -33,7 +43,7 @@ def write_pieces(pipe, process, pieces):
 
 
 def ended(process):
-    """The exit status, or None for a program that had to be killed."""
+    """The exit status, minus the signal's number for a program that a signal ended, or None for one that had to be killed."""
     try:
         return process.wait(PATIENCE)
     except subprocess.TimeoutExpired:
@@ -42,31 +52,20 @@ def ended(process):
         return None
 
 
+def contents(file):
+    file.seek(0)
+    return file.read()
+
+
 def run(command, pieces):
-    """The exit status and all output. The output goes to a file, so that nobody has to read it meanwhile."""
-    with tempfile.TemporaryFile() as output:
+    """How the program ended and what it wrote. All output goes to files, so that nobody has to read it meanwhile."""
+    with tempfile.TemporaryFile() as output, tempfile.TemporaryFile() as errors:
         read_end, write_end = os.pipe()
-        process = subprocess.Popen(command, stdin=read_end, stdout=output)
+        process = subprocess.Popen(command, stdin=read_end, stdout=output, stderr=errors)
         os.close(read_end)
         write_pieces(write_end, process, pieces)
         os.close(write_end)
-        status = ended(process)
-        output.seek(0)
-        return status, output.read()
-
-
-def run_closed(command, data, taken, heed_sigpipe):
-    """The exit status of a program whose output is closed when `taken` bytes of it have been read."""
-    with tempfile.TemporaryFile() as file:
-        file.write(data)
-        file.seek(0)
-        read_end, write_end = os.pipe()
-        process = subprocess.Popen(command, stdin=file, stdout=write_end, stderr=subprocess.DEVNULL, restore_signals=heed_sigpipe)
-        os.close(write_end)
-        if taken:
-            os.read(read_end, taken)
-        os.close(read_end)
-        return ended(process)
+        return Outcome(ended(process), contents(output), contents(errors))
 
 
 def whole(data, rng):

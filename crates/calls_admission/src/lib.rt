@@ -1,4 +1,4 @@
-// What every call but FRESH asks first, and the answer of a refusal.
+// What every call but FRESH asks first, and the answers that tell of no cell: of a refusal, and of a call that is done.
 ghost use mathlib.Core.Path.{_≡_};
 ghost use Rattle.rules.specs.Heap.{tables};
 ghost use Rattle.rules.specs.Calls.{answers};
@@ -31,14 +31,28 @@ pub fn admit(
     DONE
 }
 
-// The answer of a call that frees and queues nothing: refused, or done.
-pub fn refuse(why: u16) -> Answer
-    ensures { λ r. ⌜ r ≡ answers why 0 0 0 ⌝ }
+// Nothing freed, nothing queued, no cell made.
+fn bare_answer(refused: u16) -> Answer
+    ensures { λ r. ⌜ r ≡ answers refused 0 0 0 ⌝ }
 {
     Answer {
-        refused: why,
+        refused,
         freed: 0,
         queued: 0,
         cell: 0,
     }
+}
+
+// The answer of a call that is refused.
+pub fn refuse(why: u16) -> Answer
+    ensures { λ r. ⌜ r ≡ answers why 0 0 0 ⌝ }
+{
+    bare_answer(why)
+}
+
+// The answer of a call that is done, and has freed, queued and made nothing.
+pub fn done() -> Answer
+    ensures { λ r. ⌜ r ≡ answers 0 0 0 0 ⌝ }
+{
+    bare_answer(DONE)
 }

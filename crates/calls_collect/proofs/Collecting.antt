@@ -3,10 +3,10 @@
 use mathlib.Core.Path.{refl}
 use Rattle.rules.specs.declared.Answer.{Answer}
 use Rattle.rules.specs.Heap.{Heap}
+use Rattle.rules.specs.Sound.{Ready}
 use Rattle.rules.specs.Refusals.{isFresh}
 use Rattle.rules.specs.Refusals.Call.{COLLECT}
 use Rattle.rules.specs.Calls.{finished, act, Did}
-use Rattle.laws.specs.Sound.Facts.{Ready}
 use Rattle.laws.specs.Calls.Cases.{collect-goes}
 use Rattle.sweep.specs.Phases.{Collected}
 use Rattle.laws.specs.Calls.Admission.{inner-done}

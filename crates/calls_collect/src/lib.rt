@@ -1,8 +1,8 @@
 // COLLECT.
 ghost use Rattle.rules.specs.Heap.{tables};
+ghost use Rattle.rules.specs.Sound.{Ready};
 ghost use Rattle.rules.specs.Calls.{Did};
 ghost use Rattle.rules.specs.Refusals.Call.{COLLECT};
-ghost use Rattle.laws.specs.Sound.Facts.{Ready};
 use calls_admission::admit;
 use calls_admission::refuse;
 use rules::Answer;
@@ -23,7 +23,7 @@ pub fn collect_sound(
         (tables (now (kind .entry)) (now (flags .entry)) (now (count .entry)) (now (slots .entry)) (now (roots .entry)) (now (queue .entry)) (now (control .entry)))
         (tables (now (kind .exit)) (now (flags .exit)) (now (count .exit)) (now (slots .exit)) (now (roots .entry)) (now (queue .exit)) (now (control .exit))) r ⌝ }
 {
-    sweep::collect(kind, flags, count, slots, roots, queue, control)
+    sweep::mark_and_sweep(kind, flags, count, slots, roots, queue, control)
 }
 
 // COLLECT: what roots and queue do not reach is queued for its finalizer or freed.

@@ -4,41 +4,42 @@ use Prim.Native.Nat.{ℕ, _-_, _≤_}
 use native.Mathlib.Omega.{arith}
 use mathlib.Core.List.{List, [], _∷_}
 use mathlib.Core.Logic.{_≢_}
-use mathlib.Core.Path.{_≡_, refl, ap, subst, subst⁻¹}
+use mathlib.Core.Path.{_≡_, refl, subst, subst⁻¹}
 use lib.ListN.{getD, set}
 use Rattle.rules.specs.declared.Answer.{Answer}
 use Rattle.rules.specs.Heap.{Heap, tables, queued, running, rootAt, queueAt, setRoot, setFlags, setQueue, setRunning}
+use Rattle.rules.specs.Sound.{Ready}
 use Rattle.rules.specs.Release.{start, release}
 use Rattle.rules.specs.Refusals.{isFresh}
 use Rattle.rules.specs.Refusals.Call.{FINISH}
 use Rattle.rules.specs.Calls.{leaveQueue, finishRun, act, Did}
 use Rattle.laws.specs.Lists.Tables.{inside}
 use Rattle.laws.specs.Sound.But.{SoundBut}
-use Rattle.laws.specs.Sound.Facts.{Ready, ready-facts}
+use Rattle.laws.specs.Sound.Facts.{ready-facts}
 use Rattle.laws.specs.Calls.Cases.{finish-goes}
 use Rattle.laws.specs.Calls.Finish.{head-cell, head-object, leave-sound}
-use Rattle.release.specs.Write.{Wrote}
-use Rattle.calls_finish.specs.Finish.{Popped, Leaves, Left, BothReleasable}
-use Rattle.release.specs.Written.{wrote-did}
+use Rattle.release.specs.Write.{WorkFinished}
+use Rattle.calls_finish.specs.Finish.{Popped, Leaves, BothReleasable}
+use Rattle.release.proofs.Written.{wrote-did}
 use Rattle.calls_finish.proofs.Both.{both-releasable}
 
 -- the writes
-pub left : (f r q t q′ t′ : List ℕ) → Popped q t q′ t′ → (k n s : List ℕ)
-    → Left (leaveQueue (tables k f n s r q t)) (set f (getD q 0 0 - 1) 3) (set r (getD t 1 0 - 1) 0) q′ (set t′ 1 0)
+pub queue-left : (f r q t q′ t′ : List ℕ) → Popped q t q′ t′ → (k n s : List ℕ)
+    → tables k (set f (getD q 0 0 - 1) 3) n s (set r (getD t 1 0 - 1) 0) q′ (set t′ 1 0) ≡ leaveQueue (tables k f n s r q t)
 unfolding leaveQueue setRoot setRunning setFlags setQueue
-left f r q t q′ t′ p k n s = record { flags = refl; roots = refl; queue = p .queue; control = ap (λ (l : List ℕ). set l 1 0) (p .control) }
+queue-left f r q t q′ t′ p k n s = λ i. tables k (set f (getD q 0 0 - 1) 3) n s (set r (getD t 1 0 - 1) 0) (p .queue i) (set (p .control i) 1 0)
 
 module _ (h : Heap) (ok : Ready h) (busy : running h ≢ 0) where
-  sound : SoundBut h []
-  sound = ready-facts ok
+  sound-before : SoundBut h []
+  sound-before = ready-facts ok
 
   some : 1 ≤ queued h
-  some = sound .runs (omega arith)
+  some = sound-before .runs (omega arith)
 
   -- they may be made
   pub leaves : Leaves (h .flags) (h .roots) (h .queue) (h .control)
   leaves =
-      let s = sound in
+      let s = sound-before in
       let c = head-cell h s some in
       record {
         waits = record { some = some; within = omega (arith, s .queue .within, s .fit .queue-size); rest = s .queue .rest; control-size = s .fit .control-size };
@@ -48,22 +49,18 @@ module _ (h : Heap) (ok : Ready h) (busy : running h ≢ 0) where
         running-root = omega (arith, s .runningMost, s .roots);
       }
 
-  module _ (f r q t : List ℕ) (l : Left (leaveQueue h) f r q t) where
-    same : tables (h .kind) f (h .count) (h .slots) r q t ≡ leaveQueue h
-    unfolding leaveQueue setRoot setRunning setFlags setQueue
-    same = λ i. tables (h .kind) (l .flags i) (h .count) (h .slots) (l .roots i) (l .queue i) (l .control i)
-
+  module _ (f r q t : List ℕ) (left : tables (h .kind) f (h .count) (h .slots) r q t ≡ leaveQueue h) where
     -- what the running root held and the bump of the head are counted and stand nowhere
     pub take-ready : BothReleasable (h .kind) f (h .count) (h .slots) q t (rootAt h (running h - 1)) (queueAt h 0)
     take-ready =
         both-releasable (tables (h .kind) f (h .count) (h .slots) r q t) (rootAt h (running h - 1)) (queueAt h 0)
-        (subst⁻¹ (λ (g : Heap). SoundBut g (rootAt h (running h - 1) ∷ queueAt h 0 ∷ [])) same (leave-sound h sound busy))
+        (subst⁻¹ (λ (g : Heap). SoundBut g (rootAt h (running h - 1) ∷ queueAt h 0 ∷ [])) left (leave-sound h sound-before busy))
 
     -- once they are off, the call is done
     pub finish-did : (k₂ f₂ n₂ s₂ q₂ t₂ : List ℕ) (a : Answer)
-        → ((roots : List ℕ) → Wrote (release (release (start (tables (h .kind) f (h .count) (h .slots) roots q t)) (rootAt h (running h - 1))) (queueAt h 0)) k₂ f₂ n₂ s₂ roots q₂ t₂ a)
+        → ((roots : List ℕ) → WorkFinished (release (release (start (tables (h .kind) f (h .count) (h .slots) roots q t)) (rootAt h (running h - 1))) (queueAt h 0)) k₂ f₂ n₂ s₂ roots q₂ t₂ a)
         → Did FINISH h (tables k₂ f₂ n₂ s₂ r q₂ t₂) a
     unfolding act isFresh finishRun
     finish-did k₂ f₂ n₂ s₂ q₂ t₂ a w =
         wrote-did ok refl (finish-goes h busy) refl
-        (subst (λ (g : Heap). Wrote (release (release (start g) (rootAt h (running h - 1))) (queueAt h 0)) k₂ f₂ n₂ s₂ r q₂ t₂ a) same (w r))
+        (subst (λ (g : Heap). WorkFinished (release (release (start g) (rootAt h (running h - 1))) (queueAt h 0)) k₂ f₂ n₂ s₂ r q₂ t₂ a) left (w r))

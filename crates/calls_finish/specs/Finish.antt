@@ -4,7 +4,6 @@ use Prim.Native.Nat.{ℕ, _-_, _≤_}
 use mathlib.Core.List.{List, [], _∷_, _++_}
 use mathlib.Core.Path.{_≡_}
 use lib.ListN.{length, getD, set, drop}
-use Rattle.rules.specs.Heap.{Heap}
 use Rattle.laws.specs.Release.Serve.{Settled}
 use Rattle.release.specs.Release.{begun}
 
@@ -27,13 +26,6 @@ pub record Leaves (flags roots queue control : List ℕ) : Type 0 where
   pub head-cell : getD queue 0 0 ≤ length flags
   pub runs : 1 ≤ getD control 1 0
   pub running-root : getD control 1 0 ≤ length roots
-
--- the four tables are those of v
-pub record Left (v : Heap) (f r q t : List ℕ) : Type 0 where
-  pub flags : f ≡ v .flags
-  pub roots : r ≡ v .roots
-  pub queue : q ≡ v .queue
-  pub control : t ≡ v .control
 
 -- two references are counted and stand nowhere
 pub record BothReleasable (kind flags count slots queue control : List ℕ) (first second : ℕ) : Type 0 where

@@ -1,13 +1,14 @@
 // FINISH.
+ghost use mathlib.Core.Path.{_≡_};
 ghost use mathlib.Core.List.{List};
 ghost use Prim.Native.Nat.{ℕ};
 ghost use Rattle.rules.specs.Heap.{tables};
+ghost use Rattle.rules.specs.Sound.{Ready};
 ghost use Rattle.rules.specs.Release.{start, release};
 ghost use Rattle.rules.specs.Calls.{leaveQueue, Did};
 ghost use Rattle.rules.specs.Refusals.Call.{FINISH};
-ghost use Rattle.laws.specs.Sound.Facts.{Ready};
-ghost use Rattle.release.specs.Write.{Wrote};
-ghost use Rattle.calls_finish.specs.Finish.{Waits, Popped, Leaves, Left, BothReleasable};
+ghost use Rattle.release.specs.Write.{WorkFinished};
+ghost use Rattle.calls_finish.specs.Finish.{Waits, Popped, Leaves, BothReleasable};
 use calls_admission::admit;
 use calls_admission::refuse;
 use release::release;
@@ -35,8 +36,8 @@ fn dequeue(queue: &mut [u16], control: &mut [u16])
 // The tables that this does not read stay, whatever they are.
 fn leave(flags: &mut [u16], roots: &mut [u16], queue: &mut [u16], control: &mut [u16])
     requires { ⌜ Leaves (now flags) (now roots) (now queue) (now control) ⌝ }
-    ensures { λ _. ⌜ ((kind count slots : List ℕ) → Left (leaveQueue (tables kind (now (flags .entry)) count slots (now (roots .entry)) (now (queue .entry)) (now (control .entry))))
-        (now (flags .exit)) (now (roots .exit)) (now (queue .exit)) (now (control .exit))) ⌝ }
+    ensures { λ _. ⌜ ((kind count slots : List ℕ) → tables kind (now (flags .exit)) count slots (now (roots .exit)) (now (queue .exit)) (now (control .exit))
+        ≡ leaveQueue (tables kind (now (flags .entry)) count slots (now (roots .entry)) (now (queue .entry)) (now (control .entry)))) ⌝ }
 {
     let head = queue[0] as usize - 1;
     let at = control[1] as usize - 1;
@@ -58,7 +59,7 @@ fn take_off_both(
     second: u16,
 ) -> Answer
     requires { ⌜ BothReleasable (now kind) (now flags) (now count) (now slots) (now queue) (now control) first second ⌝ }
-    ensures { λ a. ⌜ ((roots : List ℕ) → Wrote (release (release (start (tables (now (kind .entry)) (now (flags .entry)) (now (count .entry)) (now (slots .entry)) roots (now (queue .entry)) (now (control .entry)))) first) second)
+    ensures { λ a. ⌜ ((roots : List ℕ) → WorkFinished (release (release (start (tables (now (kind .entry)) (now (flags .entry)) (now (count .entry)) (now (slots .entry)) roots (now (queue .entry)) (now (control .entry)))) first) second)
         (now (kind .exit)) (now (flags .exit)) (now (count .exit)) (now (slots .exit)) roots (now (queue .exit)) (now (control .exit)) a) ⌝ }
 {
     let before = control[0];

@@ -4,9 +4,9 @@ ghost use lib.ListN.{length, replicate};
 ghost use Rattle.rules.specs.Heap.{tables};
 ghost use Rattle.rules.specs.Calls.{Did};
 ghost use Rattle.rules.specs.Refusals.Call.{FRESH};
+use calls_admission::done;
 use calls_admission::refuse;
 use rules::Answer;
-use rules::DONE;
 use rules::SIZE;
 use soundness::fits;
 
@@ -45,5 +45,5 @@ pub fn fresh(
     zero(roots);
     zero(queue);
     zero(control);
-    refuse(DONE)
+    done()
 }

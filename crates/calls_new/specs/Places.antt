@@ -6,7 +6,7 @@ use mathlib.Core.Path.{_≡_}
 use lib.ListN.{length, set}
 
 -- cell c and root `to` stand in their tables
-pub record Room (kind flags count roots : List ℕ) (c to : ℕ) : Type 0 where
+pub record Placeable (kind flags count roots : List ℕ) (c to : ℕ) : Type 0 where
   pub small : length kind ≤ 1024
   pub kindRoom : c < length kind
   pub flagsRoom : c < length flags

@@ -1,14 +1,12 @@
 // NEW.
 ghost use mathlib.Core.Path.{_≡_};
 ghost use mathlib.Core.Bool.{true};
-ghost use Prim.Native.Nat.{suc, _<_};
-ghost use lib.ListN.{length, set};
 ghost use Rattle.rules.specs.Refusals.{lowestFree, newOk};
-ghost use Rattle.calls_new.specs.Places.{Placed, Room};
+ghost use Rattle.calls_new.specs.Places.{Placed, Placeable};
 ghost use Rattle.rules.specs.Heap.{tables};
+ghost use Rattle.rules.specs.Sound.{Ready};
 ghost use Rattle.rules.specs.Calls.{Did, answers};
 ghost use Rattle.rules.specs.Refusals.Call.{NEW};
-ghost use Rattle.laws.specs.Sound.Facts.{Ready};
 use calls_admission::admit;
 use calls_admission::refuse;
 use numbers::root::Root;
@@ -60,7 +58,7 @@ fn place(
     wanted: usize,
     finalizer: usize,
 )
-    requires { ⌜ Room (now kind) (now flags) (now count) (now roots) c (to .0) × (newOk wanted finalizer ≡ true) ⌝ }
+    requires { ⌜ Placeable (now kind) (now flags) (now count) (now roots) c (to .0) × (newOk wanted finalizer ≡ true) ⌝ }
     ensures { λ _. ⌜ Placed (now (kind .entry)) (now (flags .entry)) (now (count .entry)) (now (roots .entry)) c (to .0) wanted finalizer
         (now (kind .exit)) (now (flags .exit)) (now (count .exit)) (now (roots .exit)) ⌝ }
 {

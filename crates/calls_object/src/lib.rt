@@ -1,5 +1,4 @@
 // The object that a root holds.
-ghost use mathlib.Core.Path.{_≡_};
 ghost use Rattle.calls_object.specs.Objects.{Holding, AsObject};
 use numbers::cell::Cell;
 use numbers::cell::CellNumber;

@@ -7,11 +7,12 @@ use mathlib.Core.List.{List}
 use mathlib.Core.Path.{_≡_, refl, ap, _∙_}
 use lib.ListN.{set}
 use Rattle.rules.specs.Heap.{Heap, tables, queued, kindOf, queueAt, Used, setRoot, setRunning}
+use Rattle.rules.specs.Sound.{Ready}
 use Rattle.rules.specs.Release.{raise, incref}
 use Rattle.rules.specs.Refusals.Call.{START}
 use Rattle.rules.specs.Calls.{answers, done, startRun, act}
 use Rattle.laws.specs.Lists.Tables.{inside}
-use Rattle.laws.specs.Sound.Facts.{Ready, ready-facts, largest-count}
+use Rattle.laws.specs.Sound.Facts.{ready-facts, largest-count}
 use Rattle.laws.specs.Calls.Admission.{tables-eq}
 use Rattle.laws.specs.Calls.Finish.{head-object}
 use Rattle.release.specs.Release.{Raisable}
@@ -21,7 +22,7 @@ pub used-raisable : {h : Heap} (r : ℕ) → Ready h → ((c : ℕ) → r ≡ su
 used-raisable {h} r ok used =
     record {
       range = λ c e. omega (arith, inside (h .kind) c (used c e), ok .sized .count);
-      fits = λ c e. omega (arith, largest-count ok c);
+      fits16 = λ c e. omega (arith, largest-count ok c);
     }
 
 module _ (h : Heap) where

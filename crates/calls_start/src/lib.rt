@@ -1,9 +1,10 @@
 // START.
 ghost use Rattle.rules.specs.Heap.{tables};
+ghost use Rattle.rules.specs.Sound.{Ready};
 ghost use Rattle.rules.specs.Calls.{Did};
 ghost use Rattle.rules.specs.Refusals.Call.{START};
-ghost use Rattle.laws.specs.Sound.Facts.{Ready};
 use calls_admission::admit;
+use calls_admission::done;
 use calls_admission::refuse;
 use numbers::root::Root;
 use numbers::root::RootNumber;
@@ -50,7 +51,7 @@ pub fn start_sound(
     incref(count, head);
     roots[at] = head;
     control[1] = at as u16 + 1;
-    refuse(DONE)
+    done()
 }
 
 // START: the queue's head is placed in an empty root, which becomes the running root. The queue stays.

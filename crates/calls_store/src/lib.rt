@@ -1,8 +1,8 @@
 // STORE.
 ghost use Rattle.rules.specs.Heap.{tables};
+ghost use Rattle.rules.specs.Sound.{Ready};
 ghost use Rattle.rules.specs.Calls.{Did};
 ghost use Rattle.rules.specs.Refusals.Call.{STORE};
-ghost use Rattle.laws.specs.Sound.Facts.{Ready};
 use calls_admission::admit;
 use calls_admission::refuse;
 use calls_object::Object;

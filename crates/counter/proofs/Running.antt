@@ -2,7 +2,7 @@
 use Prim.Native.Nat.{ℕ}
 use mathlib.Core.List.{List, [], _++_}
 use mathlib.Core.Path.{_≡_, subst}
-use Rattle.csv.specs.Meaning.{start}
+use Rattle.csv.specs.Meaning.{scanStart}
 use Rattle.csv.specs.declared.scan.Scan.{Scan}
 use Rattle.rules.specs.Heap.{Heap}
 use Rattle.session.specs.Pieces.{Took}
@@ -15,16 +15,16 @@ use Rattle.counter.specs.declared.Served.the-variants.{More}
 -- scan and tables are what the input so far makes of a fresh heap
 pub record Running (t : Scan) (k : Heap) : Type 0 where
   pub input : List ℕ
-  pub took : Took start atStart input t k
+  pub took : Took scanStart atStart input t k
 
 -- before any input
-pub begin : Running start atStart
-begin = record { input = []; took = took-none start atStart }
+pub running-begin : Running scanStart atStart
+running-begin = record { input = []; took = took-none scanStart atStart }
 
 -- one read more
-pub further : (s t : Scan) (h k : Heap) (r : Served) → Running s h → AnsweredSome s h k r → r ≡ More t → Running t k
-further s t h k r a b e =
+pub running-further : (s t : Scan) (h k : Heap) (r : Served) → Running s h → AnsweredSome s h k r → r ≡ More t → Running t k
+running-further s t h k r a b e =
     record {
       input = a .input ++ b .piece;
-      took = took-more start s t (a .input) (b .piece) atStart h k (a .took) (subst (λ (x : Served). Answered s h (b .piece) k x) e (b .answered));
+      took = took-more scanStart s t (a .input) (b .piece) atStart h k (a .took) (subst (λ (x : Served). Answered s h (b .piece) k x) e (b .answered));
     }

@@ -8,7 +8,7 @@ ghost use lib.ListN.{length};
 ghost use Rattle.rules.specs.Heap.{tables};
 ghost use Rattle.counter.specs.Served.{Answered, AnsweredSome};
 use csv::scan::Scan;
-use csv::scan::start;
+use csv::scan::scan_start;
 use session::close;
 use session::header;
 use session::take_piece;
@@ -143,7 +143,7 @@ fn run() {
     let mut roots = [0u16; 64];
     let mut queue = [0u16; 256];
     let mut control = [0u16; 2];
-    let mut scan = start();
+    let mut scan = scan_start();
     let mut reads = u64::MAX;
     while reads > 0 {
         reads -= 1;

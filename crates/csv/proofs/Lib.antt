@@ -7,4 +7,3 @@ pub mod Whole
 pub mod Written
 pub mod Decimal
 pub mod Spelled
-pub mod Examples

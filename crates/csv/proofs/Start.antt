@@ -7,26 +7,26 @@ use mathlib.Core.Bool.{and-assoc}
 use lib.ListN.{length}
 use borrow.Author.Tests.{ne-eqb}
 use Rattle.csv.specs.Lines.{all, linesOf, fieldsOf, recordOf, recordOfFields, recordsOf}
-use Rattle.csv.specs.Meaning.{judge, closing, resumed, meaning, start}
+use Rattle.csv.specs.Meaning.{recordFrom, closing, resumed, meaning, scanStart}
 use Rattle.csv.proofs.Numbers.{number-grows}
 
-start-judge : (fs : List (List ℕ)) → judge start fs ≡ recordOfFields fs
-unfolding judge recordOfFields all
-start-judge [] = refl
-start-judge (f ∷ []) = refl
-start-judge (f ∷ (g ∷ [])) = refl
-start-judge (f ∷ (g ∷ (h ∷ []))) = refl
-start-judge (f ∷ (g ∷ (h ∷ (k ∷ [])))) =
+start-record : (fs : List (List ℕ)) → recordFrom scanStart fs ≡ recordOfFields fs
+unfolding recordFrom recordOfFields all
+start-record [] = refl
+start-record (f ∷ []) = refl
+start-record (f ∷ (g ∷ [])) = refl
+start-record (f ∷ (g ∷ (h ∷ []))) = refl
+start-record (f ∷ (g ∷ (h ∷ (k ∷ [])))) =
     let plain : 0 + length f ≡ length f = omega arith in
     simp (number-grows f, plain, and-assoc)
-start-judge (f ∷ (g ∷ (h ∷ (k ∷ (m ∷ fs))))) =
+start-record (f ∷ (g ∷ (h ∷ (k ∷ (m ∷ fs))))) =
     rw (ne-eqb (0 + suc (suc (suc (suc (length fs))))) 3 (λ e. omega arith), ne-eqb (suc (suc (suc (suc (suc (length fs)))))) 4 (λ e. omega arith))
 
-pub start-resumed : (ls : List (List ℕ)) → resumed start ls ≡ map recordOf ls
+pub start-resumed : (ls : List (List ℕ)) → resumed scanStart ls ≡ map recordOf ls
 unfolding resumed closing recordOf
 start-resumed [] = refl
-start-resumed (l ∷ ls) = rw (start-judge (fieldsOf l))
+start-resumed (l ∷ ls) = rw (start-record (fieldsOf l))
 
-pub from-start : (input : List ℕ) → meaning start input ≡ recordsOf input
+pub from-start : (input : List ℕ) → meaning scanStart input ≡ recordsOf input
 unfolding meaning recordsOf
 from-start input = start-resumed (linesOf input)

@@ -6,7 +6,7 @@ use mathlib.Core.List.{List, [], _∷_}
 use mathlib.Core.Bool.{false}
 use lib.Dec.{eqb}
 use Rattle.csv.specs.Lines.{fieldsOf, recordsOf}
-use Rattle.csv.specs.Meaning.{judge, meaning, start}
+use Rattle.csv.specs.Meaning.{recordFrom, meaning, scanStart}
 use Rattle.csv.specs.declared.scan.Record.{Record}
 use Rattle.csv.specs.declared.scan.Scan.{Scan}
 use Rattle.csv.specs.declared.scan.Step.{Step}
@@ -17,29 +17,29 @@ use Rattle.csv.specs.declared.scan.Last.the-variants.{Nothing, Final}
 -- what a step and the rest of the input say
 unfoldable pub given : Step → List ℕ → List Record
 given (More s) rest = meaning s rest
-given (Line r) rest = r ∷ meaning start rest
+given (Line r) rest = r ∷ meaning scanStart rest
 
 -- what the end of the input adds
-unfoldable pub closed : Last → List Record
-closed Nothing = []
-closed (Final r) = r ∷ []
+unfoldable pub atEnd : Last → List Record
+atEnd Nothing = []
+atEnd (Final r) = r ∷ []
 
 -- one byte: whatever follows, the step says what the scan said
 pub record Fed (s : Scan) (byte : ℕ) (r : Step) : Type 0 where
-  pub same : (rest : List ℕ) → meaning s (byte ∷ rest) ≡ given r rest
+  pub says : (rest : List ℕ) → meaning s (byte ∷ rest) ≡ given r rest
 
 -- a byte inside a line
 pub record Takes (s : Scan) (byte : ℕ) (r : Scan) : Type 0 where
-  pub judged : (l : List ℕ) → judge s (fieldsOf (byte ∷ l)) ≡ judge r (fieldsOf l)
+  pub lineSays : (l : List ℕ) → recordFrom s (fieldsOf (byte ∷ l)) ≡ recordFrom r (fieldsOf l)
   pub begun : eqb (r .field + r .digits) 0 ≡ false
   pub plain : r .cr ≡ false
 
--- A run of `feed` over some bytes, and of `finish` after them, with the records that they gave.
+-- A run of `feed` over some bytes, and of `scan_end` after them, with the records that they gave.
 pub data Scanned : Scan → List ℕ → List Record → Type 0 where
-  finished : {s : Scan} (l : Last) → meaning s [] ≡ closed l → Scanned s [] (closed l)
-  more : {s : Scan} (t : Scan) (byte : ℕ) {rest : List ℕ} {rs : List Record} → Fed s byte (More t) → Scanned t rest rs → Scanned s (byte ∷ rest) rs
-  line : {s : Scan} (r : Record) (byte : ℕ) {rest : List ℕ} {rs : List Record} → Fed s byte (Line r) → Scanned start rest rs → Scanned s (byte ∷ rest) (r ∷ rs)
+  ended : {s : Scan} (l : Last) → meaning s [] ≡ atEnd l → Scanned s [] (atEnd l)
+  inLine : {s : Scan} (t : Scan) (byte : ℕ) {rest : List ℕ} {rs : List Record} → Fed s byte (More t) → Scanned t rest rs → Scanned s (byte ∷ rest) rs
+  lineEnd : {s : Scan} (r : Record) (byte : ℕ) {rest : List ℕ} {rs : List Record} → Fed s byte (Line r) → Scanned scanStart rest rs → Scanned s (byte ∷ rest) (r ∷ rs)
 
 -- the claim of the scanner: from the start, such a run gives the records of the input's lines, and nothing else
 abbrev pub ScansAll : Type 0
-ScansAll = (input : List ℕ) (rs : List Record) → Scanned start input rs → rs ≡ recordsOf input
+ScansAll = (input : List ℕ) (rs : List Record) → Scanned scanStart input rs → rs ≡ recordsOf input

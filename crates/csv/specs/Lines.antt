@@ -14,20 +14,20 @@ all p [] = true
 all p (x ∷ l) = p x && all p l
 
 -- b in front of the first part, or a part of its own where there is none
-unfoldable pub onto : ℕ → List (List ℕ) → List (List ℕ)
-onto b [] = (b ∷ []) ∷ []
-onto b (l ∷ ls) = (b ∷ l) ∷ ls
+unfoldable pub ontoFirst : ℕ → List (List ℕ) → List (List ℕ)
+ontoFirst b [] = (b ∷ []) ∷ []
+ontoFirst b (l ∷ ls) = (b ∷ l) ∷ ls
 
 -- "CR LF, the last one optional": CR LF ends a line; "a lone CR or LF" does not, and is part of its line
 unfoldable pub linesOf : List ℕ → List (List ℕ)
 linesOf [] = []
 linesOf (b ∷ []) = (b ∷ []) ∷ []
-linesOf (b ∷ (c ∷ s)) = cond (eqb b 13 && eqb c 10) ([] ∷ linesOf s) (onto b (linesOf (c ∷ s)))
+linesOf (b ∷ (c ∷ s)) = cond (eqb b 13 && eqb c 10) ([] ∷ linesOf s) (ontoFirst b (linesOf (c ∷ s)))
 
 -- "fields, unquoted": a comma always ends a field. An empty line has one field, which is empty.
 unfoldable pub fieldsOf : List ℕ → List (List ℕ)
 fieldsOf [] = [] ∷ []
-fieldsOf (b ∷ l) = cond (eqb b 44) ([] ∷ fieldsOf l) (onto b (fieldsOf l))
+fieldsOf (b ∷ l) = cond (eqb b 44) ([] ∷ fieldsOf l) (ontoFirst b (fieldsOf l))
 
 -- "decimal"
 abbrev pub isDigit : ℕ → Bool

@@ -1,4 +1,4 @@
--- What a scan means: the records that it and the rest of the input say. The line so far is not kept, so the meaning tells how any rest of it is judged.
+-- What a scan means: the records that it and the rest of the input say. The line so far is not kept, so the meaning tells what any rest of it says.
 -- Assumes nothing: these are definitions.
 use Prim.Native.Nat.{ℕ, _+_, _*_, _-_}
 use mathlib.Core.List.{List, [], _∷_, map}
@@ -16,25 +16,25 @@ grows n d [] = true
 grows n d (b ∷ f) = isDigit b && (ltb n 5 && (leb (d * 10 + (b - 48)) 65535 && grows (n + 1) (d * 10 + (b - 48)) f))
 
 -- what a line says whose last fields are these: the first of them goes on where the scan stopped
-unfoldable pub judge : Scan → List (List ℕ) → Record
-judge s [] = Malformed
-judge s (f ∷ fs) =
+unfoldable pub recordFrom : Scan → List (List ℕ) → Record
+recordFrom s [] = Malformed
+recordFrom s (f ∷ fs) =
     cond (eqb (s .field + length fs) 3 && (leb 1 (s .digits + length f) && (grows (s .digits) (s .d) f && all isNumber fs)))
     (four (drop (length fs) (s .a ∷ s .b ∷ s .c ∷ valueFrom (s .d) f ∷ map valueOf fs))) Malformed
 
 -- at the end of the input: nothing, if the line is empty so far
 unfoldable pub closing : Scan → List Record
-closing s = cond (eqb (s .field + s .digits) 0) [] (judge s ([] ∷ []) ∷ [])
+closing s = cond (eqb (s .field + s .digits) 0) [] (recordFrom s ([] ∷ []) ∷ [])
 
 -- with these lines to come, of which the first goes on where the scan stopped
 unfoldable pub resumed : Scan → List (List ℕ) → List Record
 resumed s [] = closing s
-resumed s (l ∷ ls) = judge s (fieldsOf l) ∷ map recordOf ls
+resumed s (l ∷ ls) = recordFrom s (fieldsOf l) ∷ map recordOf ls
 
 -- with these bytes to come; a CR is kept back until the next byte
 unfoldable pub meaning : Scan → List ℕ → List Record
 meaning s rest = resumed s (linesOf (cond (s .cr) (13 ∷ rest) rest))
 
 -- before any input
-abbrev pub start : Scan
-start = record { cr = false; field = 0; digits = 0; a = 0; b = 0; c = 0; d = 0 }
+abbrev pub scanStart : Scan
+scanStart = record { cr = false; field = 0; digits = 0; a = 0; b = 0; c = 0; d = 0 }

@@ -2,9 +2,9 @@
 ghost use mathlib.Core.Path.{_≡_};
 ghost use mathlib.Core.Bool.{false};
 ghost use mathlib.Core.List.{[], _∷_};
-ghost use Prim.Native.Nat.{_+_, _≤_};
-ghost use Rattle.csv.specs.Meaning.{meaning, start as fromStart, judge};
-ghost use Rattle.csv.specs.Feeding.{closed, Fed, Takes};
+ghost use Prim.Native.Nat.{_≤_};
+ghost use Rattle.csv.specs.Meaning.{meaning, scanStart, recordFrom};
+ghost use Rattle.csv.specs.Feeding.{atEnd, Fed, Takes};
 
 // What a line says.
 pub enum Record {
@@ -37,8 +37,8 @@ pub enum Last {
 }
 
 // Before any input.
-pub fn start() -> Scan
-    ensures { λ r. ⌜ r ≡ fromStart ⌝ }
+pub fn scan_start() -> Scan
+    ensures { λ r. ⌜ r ≡ scanStart ⌝ }
 {
     Scan {
         cr: false,
@@ -65,8 +65,8 @@ pub fn feed(s: Scan, byte: u8) -> Step
 }
 
 // The end of the input closes an unfinished line; a CR at its end is part of it.
-pub fn finish(s: Scan) -> Last
-    ensures { λ r. ⌜ meaning s [] ≡ closed r ⌝ }
+pub fn scan_end(s: Scan) -> Last
+    ensures { λ r. ⌜ meaning s [] ≡ atEnd r ⌝ }
 {
     if s.cr {
         return Last::Final(Record::Malformed);
@@ -81,7 +81,7 @@ pub fn finish(s: Scan) -> Last
 
 // What the line says if it ends here.
 fn said(s: Scan) -> Record
-    ensures { λ r. ⌜ r ≡ judge s ([] ∷ []) ⌝ }
+    ensures { λ r. ⌜ r ≡ recordFrom s ([] ∷ []) ⌝ }
 {
     if s.field != 3 {
         return Record::Malformed;

@@ -1,4 +1,10 @@
--- The user's demands over the rules: every call of a list, and every list.
+-- The user's demands over the rules: one call, a list of calls, and the three theorems; what shows that they are not empty, and that more would be false.
 pub mod Step
-pub mod Whole
+pub mod Events
+pub mod Sweep
+pub mod First
+pub mod Second
+pub mod Third
+pub mod Example
 pub mod Witness
+pub mod Stronger

@@ -4,13 +4,13 @@ use numbers::cell::Cell;
 use numbers::cell::CellNumber;
 use numbers::slot::Slot;
 use numbers::slot::SlotNumber;
-ghost use Prim.Native.Nat.{ℕ, _+_, _*_, _-_, _≤_, _<_};
+ghost use Prim.Native.Nat.{_+_, _*_, _≤_, _<_};
 ghost use mathlib.Core.List.{_++_};
 ghost use mathlib.Core.Path.{_≡_};
 ghost use lib.ListN.{length, getD, set, replicate};
 ghost use Rattle.rules.specs.Marking.{markFrom};
 ghost use Rattle.rules.specs.Depth.{toMark, markCell, markSlot, markTable, nextNoted, scanAll};
-ghost use Rattle.laws.specs.Marking.Marks.{Within, Slots, Settled, FirstNoted};
+ghost use Rattle.laws.specs.Marking.Marks.{Within, Slots, ClosedMarks, FirstNoted};
 
 // How deep cells nest.
 const DEPTH: usize = 16;
@@ -124,7 +124,7 @@ fn next_noted(marks: &[u8], from: usize, n: usize) -> usize
 // Serves every noted cell: marks it, and from it, until none is noted.
 fn mark_noted(slots: &[u16], marks: &mut [u8])
     requires { ⌜ Slots (now slots) (length (now marks)) ⌝ }
-    ensures { λ _. ⌜ now (marks .exit) ≡ scanAll (now (slots .entry)) (now (marks .entry)) ⌝ }
+    ensures { λ _. ⌜ now (marks .exit) ≡ scanAll 16 (now (slots .entry)) (now (marks .entry)) ⌝ }
 {
     let n = slots.len() / 8;
     let mut c = next_noted(marks, 0, n);
@@ -163,7 +163,7 @@ fn mark_table(slots: &[u16], marks: &mut [u8], table: &[u16])
 pub fn mark_from(slots: &[u16], marks: &mut [u8], table: &[u16])
     requires { ⌜ Slots (now slots) (length (now marks)) ⌝ }
     requires { ⌜ Within (length (now marks)) (now table) ⌝ }
-    requires { ⌜ Settled (now slots) (now marks) ⌝ }
+    requires { ⌜ ClosedMarks (now slots) (now marks) ⌝ }
     ensures { λ _. ⌜ now (marks .exit) ≡ markFrom (now (slots .entry)) (now (marks .entry)) (now (table .entry)) ⌝ }
 {
     mark_table(slots, marks, table);
@@ -175,7 +175,7 @@ pub fn mark_all(slots: &[u16], marks: &mut [u8], roots: &[u16], queue: &[u16])
     requires { ⌜ Slots (now slots) (length (now marks)) ⌝ }
     requires { ⌜ Within (length (now marks)) (now roots) ⌝ }
     requires { ⌜ Within (length (now marks)) (now queue) ⌝ }
-    requires { ⌜ Settled (now slots) (now marks) ⌝ }
+    requires { ⌜ ClosedMarks (now slots) (now marks) ⌝ }
     ensures { λ _. ⌜ now (marks .exit) ≡ markFrom (now (slots .entry)) (now (marks .entry)) (now (roots .entry) ++ now (queue .entry)) ⌝ }
 {
     mark_table(slots, marks, roots);

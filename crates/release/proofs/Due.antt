@@ -5,27 +5,27 @@ use native.Mathlib.Omega.{arith}
 use mathlib.Core.List.{List, [], _∷_}
 use mathlib.Core.Path.{_≡_, subst}
 use lib.ListN.{length, getD}
-use Rattle.laws.specs.Release.Decref.{counted, in-range, queue-room, work-room}
+use Rattle.laws.specs.Release.Decref.{count-above-zero, in-range, queue-room, work-room}
 use Rattle.laws.specs.Release.Serve.{work-list}
-use Rattle.release.specs.Steps.{Due}
+use Rattle.release.specs.Steps.{ToComeOff}
 
-pub tail-fits : (k f n q t work : List ℕ) (tail : ℕ) (l : List ℕ) → Due k f n q t work tail l → tail ≤ 1024
+pub tail-fits : (k f n q t work : List ℕ) (tail : ℕ) (l : List ℕ) → ToComeOff k f n q t work tail l → tail ≤ 1024
 tail-fits k f n q t work tail l d = omega (arith, work-list _ _ _ _ (d .balanced), d .listed, d .balanced .fit .small)
 
 -- a reference that is not empty names cell r - 1
-pub named-due : (k f n q t work : List ℕ) (tail r : ℕ) → Due k f n q t work tail (r ∷ []) → (r ≡ 0 → ⊥) → Due k f n q t work tail (suc (r - 1) ∷ [])
-named-due k f n q t work tail r d some = subst (λ (x : ℕ). Due k f n q t work tail (x ∷ [])) (omega arith) d
+pub named-due : (k f n q t work : List ℕ) (tail r : ℕ) → ToComeOff k f n q t work tail (r ∷ []) → (r ≡ 0 → ⊥) → ToComeOff k f n q t work tail (suc (r - 1) ∷ [])
+named-due k f n q t work tail r d some = subst (λ (x : ℕ). ToComeOff k f n q t work tail (x ∷ [])) (omega arith) d
 
-module _ (k f n q t work : List ℕ) (tail c : ℕ) (d : Due k f n q t work tail (suc c ∷ [])) where
+module _ (k f n q t work : List ℕ) (tail c : ℕ) (d : ToComeOff k f n q t work tail (suc c ∷ [])) where
   pub range : c < length k
   range = in-range _ _ _ _ c (d .balanced)
 
   -- the guard against a count of zero is never needed
   pub not-zero : 1 ≤ getD n c 0
-  not-zero = counted _ _ _ _ c (d .balanced)
+  not-zero = count-above-zero _ _ _ _ c (d .balanced)
 
-  pub only : getD n c 0 ≤ 1 → getD n c 0 ≡ 1
-  only h = omega (arith, not-zero)
+  pub last-one : getD n c 0 ≤ 1 → getD n c 0 ≡ 1
+  last-one h = omega (arith, not-zero)
 
   pub queue-free : getD n c 0 ≡ 1 → getD t 0 0 < length q
   queue-free e = omega (arith, queue-room _ _ _ _ c (d .balanced) e, d .balanced .fit .queue-size)

@@ -3,4 +3,6 @@ pub mod Step
 pub mod Run
 pub mod Serving
 pub mod Released
+pub mod Whole
 pub mod Writing
+pub mod Written

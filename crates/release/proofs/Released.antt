@@ -5,7 +5,7 @@ use mathlib.Core.List.{List, [], _∷_, _++_, append-nil}
 use Prim.Native.Nat.{ℕ}
 use native.Mathlib.Omega.{arith}
 use lib.ListN.{length, take}
-use Rattle.rules.specs.Heap.{tables}
+use Rattle.rules.specs.Heap.{Heap, tables}
 use Rattle.rules.specs.Release.{Work, start, decref, drain, release}
 use Rattle.laws.specs.Sound.But.{Fit}
 use Rattle.laws.specs.Release.Balance.{Draining}
@@ -14,8 +14,8 @@ use Rattle.laws.specs.Release.Advance.{Frame, decref-frame}
 use Rattle.laws.specs.Release.Onto.{onto, decref-onto}
 use Rattle.laws.specs.Release.Beside.{beside, drain-beside}
 use Rattle.laws.specs.Release.Serve.{release-due, decref-draining, drain-empty}
-use Rattle.release.specs.Release.{begun, Releasable, Holds}
-use Rattle.release.specs.Steps.{working, Due, Lowered, Drainable}
+use Rattle.release.specs.Release.{begun, Releasable, WorkDone}
+use Rattle.release.specs.Steps.{working, ToComeOff, CameOff, Drainable}
 
 -- the tables' lengths
 pub fit-of : (k f n s q t : List ℕ) (r : ℕ) → Releasable k f n s q t r → Fit k f n q t
@@ -24,7 +24,7 @@ fit-of k f n s q t r d = d .settled .draining .balanced .fit
 
 module _ (k f n s q t : List ℕ) (r : ℕ) where
   -- the reference is due, and the work list is empty
-  pub first-due : (w : List ℕ) → length w ≡ 1024 → Releasable k f n s q t r → Due k f n q t w 0 (r ∷ [])
+  pub first-due : (w : List ℕ) → length w ≡ 1024 → Releasable k f n s q t r → ToComeOff k f n q t w 0 (r ∷ [])
   unfolding start
   first-due w size d = record {
     serving = [];
@@ -36,7 +36,7 @@ module _ (k f n s q t : List ℕ) (r : ℕ) where
     balanced = beside-balanced _ _ _ _ [] [] [] [] (release-due _ r (d .outside) (d .settled .draining));
   }
 
-  module _ (n′ q′ t′ w w′ : List ℕ) (x : ℕ) (e : Lowered (decref (working k f n [] q t []) r) n′ q′ t′ w 0 w′ x) where
+  module _ (n′ q′ t′ w w′ : List ℕ) (x : ℕ) (e : CameOff (decref (working k f n [] q t []) r) n′ q′ t′ w 0 w′ x) where
     -- the cells that the first step queued
     joined : List ℕ
     joined = decref (working k f n [] q t []) r .queued
@@ -59,19 +59,23 @@ module _ (k f n s q t : List ℕ) (r : ℕ) where
     unfolding release start
     release-is = ap (drain (length k)) first-is ∙ drain-beside [] [] joined (length k) (working k f n′ s q′ t′ (take x w′))
 
-    pub then-drain : (k′ f′ n″ s′ q″ t″ : List ℕ) (d : ℕ) → Holds (drain (length k) (working k f n′ s q′ t′ (take x w′))) k′ f′ n″ s′ q″ t″ d
-        → Holds (release (begun k f n s q t) r) k′ f′ n″ s′ q″ t″ d
+    pub then-drain : (k′ f′ n″ s′ q″ t″ : List ℕ) (d : ℕ) → WorkDone (drain (length k) (working k f n′ s q′ t′ (take x w′))) k′ f′ n″ s′ q″ t″ d
+        → WorkDone (release (begun k f n s q t) r) k′ f′ n″ s′ q″ t″ d
     unfolding beside onto
     then-drain k′ f′ n″ s′ q″ t″ d h =
-        subst⁻¹ (λ (v : Work). Holds v k′ f′ n″ s′ q″ t″ d) release-is
-        (record { kind = h .kind; flags = h .flags; count = h .count; slots = h .slots; queue = h .queue; control = h .control; freed = h .freed; few = h .few })
+        subst⁻¹ (λ (v : Work). WorkDone v k′ f′ n″ s′ q″ t″ d) release-is
+        (record {
+          heap = ap (λ (g : Heap). tables (g .kind) (g .flags) (g .count) (g .slots) [] (g .queue) (g .control)) (h .heap);
+          freed = h .freed;
+          few = h .few;
+        })
 
     -- nothing joined the work list
-    pub at-once : x ≡ 0 → Holds (release (begun k f n s q t) r) k f n′ s q′ t′ 0
+    pub at-once : x ≡ 0 → WorkDone (release (begun k f n s q t) r) k f n′ s q′ t′ 0
     at-once z =
         then-drain k f n′ s q′ t′ 0
-        (subst⁻¹ (λ (v : Work). Holds v k f n′ s q′ t′ 0) (drain-empty (length k) (working k f n′ s q′ t′ (take x w′)) (ap (λ (i : ℕ). take i w′) z))
-        (record { kind = refl; flags = refl; count = refl; slots = refl; queue = refl; control = refl; freed = refl; few = omega arith }))
+        (subst⁻¹ (λ (v : Work). WorkDone v k f n′ s q′ t′ 0) (drain-empty (length k) (working k f n′ s q′ t′ (take x w′)) (ap (λ (i : ℕ). take i w′) z))
+        (record { heap = refl; freed = refl; few = omega arith }))
 
     pub drainable : Releasable k f n s q t r → length w′ ≡ 1024 → Drainable k f n′ s q′ t′ w′ x
     unfolding beside onto start

@@ -13,7 +13,7 @@ use Rattle.laws.specs.Release.Balance.{Balanced}
 use Rattle.laws.specs.Release.Decref.{decref-balanced, beside-balanced}
 use Rattle.laws.specs.Release.Advance.{Frame, decref-frame}
 use Rattle.laws.specs.Release.Onto.{onto, decref-onto, decrefs-onto}
-use Rattle.release.specs.Steps.{working, Due, Lowered}
+use Rattle.release.specs.Steps.{working, ToComeOff, CameOff}
 use Rattle.release.proofs.Due.{tail-fits}
 
 -- What is still to do from v on, after the work list `listed`, ends where `goal` does after the work list `first`.
@@ -35,7 +35,7 @@ toward-trans a b c i j k p q = record {
 }
 
 module _ (k f n q t : List ℕ) (r : ℕ) (n′ q′ t′ before : List ℕ) (tail : ℕ) (after : List ℕ) (next : ℕ)
-    (e : Lowered (decref (working k f n [] q t []) r) n′ q′ t′ before tail after next) where
+    (e : CameOff (decref (working k f n [] q t []) r) n′ q′ t′ before tail after next) where
   -- the rules' state after one step is the code's, with the new entries of the work list before it
   stepped : decref (working k f n [] q t []) r
       ≡ onto [] [] (decref (working k f n [] q t []) r .pending) [] (decref (working k f n [] q t []) r .queued) (working k f n′ [] q′ t′ [])
@@ -66,7 +66,7 @@ module _ (k f n q t : List ℕ) (r : ℕ) (n′ q′ t′ before : List ℕ) (ta
       }
 
   -- the references that are still due
-  due-step : (rem : List ℕ) → Due k f n q t before tail (r ∷ rem) → length after ≡ length before → Due k f n′ q′ t′ after next rem
+  due-step : (rem : List ℕ) → ToComeOff k f n q t before tail (r ∷ rem) → length after ≡ length before → ToComeOff k f n′ q′ t′ after next rem
   unfolding onto
   due-step rem d same =
       let v : Work = decref (working k f n [] q t []) r in
@@ -105,12 +105,12 @@ pub record Going (kind flags first-count slots first-queue first-control first-w
   pub work-kept : length work ≡ length first-work
   pub within : i ≤ end
   pub inside : end ≤ length slots
-  pub due : Due kind flags count queue control work t (slice i end slots)
+  pub due : ToComeOff kind flags count queue control work t (slice i end slots)
   pub toward : Toward (decrefs (working kind flags first-count [] first-queue first-control []) (slice from end slots)) (take tail first-work)
       (decrefs (working kind flags count [] queue control []) (slice i end slots)) (take t work)
 
 module _ (k f n₀ s q₀ t₀ w₀ : List ℕ) (tail from end : ℕ) where
-  pub go-start : from ≤ end → end ≤ length s → Due k f n₀ q₀ t₀ w₀ tail (slice from end s) → Going k f n₀ s q₀ t₀ w₀ tail from end n₀ q₀ t₀ w₀ tail from
+  pub go-start : from ≤ end → end ≤ length s → ToComeOff k f n₀ q₀ t₀ w₀ tail (slice from end s) → Going k f n₀ s q₀ t₀ w₀ tail from end n₀ q₀ t₀ w₀ tail from
   go-start h e d = record {
     count-kept = refl;
     queue-kept = refl;
@@ -123,11 +123,11 @@ module _ (k f n₀ s q₀ t₀ w₀ : List ℕ) (tail from end : ℕ) where
   }
 
   module _ (n q t w : List ℕ) (x i : ℕ) (g : Going k f n₀ s q₀ t₀ w₀ tail from end n q t w x i) (more : i < end) where
-    next-due : Due k f n q t w x (getD s i 0 ∷ slice (suc i) end s)
-    next-due = subst (Due k f n q t w x) (slice-cons i end s 0 more (g .inside)) (g .due)
+    next-due : ToComeOff k f n q t w x (getD s i 0 ∷ slice (suc i) end s)
+    next-due = subst (ToComeOff k f n q t w x) (slice-cons i end s 0 more (g .inside)) (g .due)
 
     -- the reference at i is due
-    pub go-due : Due k f n q t w x (getD s i 0 ∷ [])
+    pub go-due : ToComeOff k f n q t w x (getD s i 0 ∷ [])
     go-due = record {
       serving = next-due .serving;
       done = next-due .done;
@@ -138,7 +138,7 @@ module _ (k f n₀ s q₀ t₀ w₀ : List ℕ) (tail from end : ℕ) where
       balanced = next-due .balanced;
     }
 
-    pub go-on : (n′ q′ t′ w′ : List ℕ) (x′ : ℕ) → Lowered (decref (working k f n [] q t []) (getD s i 0)) n′ q′ t′ w x w′ x′
+    pub go-on : (n′ q′ t′ w′ : List ℕ) (x′ : ℕ) → CameOff (decref (working k f n [] q t []) (getD s i 0)) n′ q′ t′ w x w′ x′
         → length n′ ≡ length n → length q′ ≡ length q → length t′ ≡ length t → length w′ ≡ length w
         → Going k f n₀ s q₀ t₀ w₀ tail from end n′ q′ t′ w′ x′ (i + 1)
     go-on n′ q′ t′ w′ x′ e a b c d = record {
@@ -150,13 +150,16 @@ module _ (k f n₀ s q₀ t₀ w₀ : List ℕ) (tail from end : ℕ) where
       inside = g .inside;
       due = rw add-one (due-step k f n q t (getD s i 0) n′ q′ t′ w x w′ x′ e (slice (suc i) end s) next-due d);
       toward = rw add-one (toward-trans _ _ _ _ _ _
-          (subst (λ (l : List ℕ). Toward (decrefs (working k f n₀ [] q₀ t₀ []) (slice from end s)) (take tail w₀) (decrefs (working k f n [] q t []) l) (take x w)) (slice-cons i end s 0 more (g .inside)) (g .toward))
+          (subst
+          (λ (l : List ℕ). Toward (decrefs (working k f n₀ [] q₀ t₀ []) (slice from end s)) (take tail w₀) (decrefs (working k f n [] q t []) l) (take x w))
+          (slice-cons i end s 0 more (g .inside))
+          (g .toward))
           (toward-step k f n q t (getD s i 0) n′ q′ t′ w x w′ x′ e (slice (suc i) end s)));
     }
 
   -- at the end of the part
   pub go-end : (n q t w : List ℕ) (x i : ℕ) → Going k f n₀ s q₀ t₀ w₀ tail from end n q t w x i → end ≤ i
-      → Lowered (decrefs (working k f n₀ [] q₀ t₀ []) (slice from end s)) n q t w₀ tail w x
+      → CameOff (decrefs (working k f n₀ [] q₀ t₀ []) (slice from end s)) n q t w₀ tail w x
   unfolding decrefs
   go-end n q t w x i g h =
       let none : slice i end s ≡ [] = drop-of-length-le (take end s) {i = i} (omega (arith, length-take-le end s (g .inside))) in

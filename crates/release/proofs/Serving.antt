@@ -16,17 +16,17 @@ use Rattle.laws.specs.Release.Advance.{Frame, decrefs-frame}
 use Rattle.laws.specs.Release.Onto.{onto, decrefs-onto}
 use Rattle.laws.specs.Release.Beside.{beside, drain-beside}
 use Rattle.laws.specs.Release.Serve.{work-list, served, emptied, serve-range, serve-slots, serve-begin, served-count, serve-draining, drain-empty, drain-step}
-use Rattle.release.specs.Release.{Holds}
-use Rattle.release.specs.Steps.{working, Due, Lowered, Stands, Wiped, Drainable}
+use Rattle.release.specs.Release.{WorkDone}
+use Rattle.release.specs.Steps.{working, ToComeOff, CameOff, CellInTables, CellWiped, Drainable}
+
+-- a work that has no roots drains to one that has none
+drain-rootless : (m : ℕ) (k f n s q t p : List ℕ) → beside [] [] [] (drain m (working k f n s q t p)) .heap ≡ drain m (working k f n s q t p) .heap
+unfolding beside
+drain-rootless m k f n s q t p = sym (ap (λ (w : Work). w .heap) (drain-beside [] [] [] m (working k f n s q t p)))
 
 -- goal's tables are v's, and goal has freed `more` cells more
 pub record Reaches (goal v : Work) (more : ℕ) : Type 0 where
-  pub kind : goal .heap .kind ≡ v .heap .kind
-  pub flags : goal .heap .flags ≡ v .heap .flags
-  pub count : goal .heap .count ≡ v .heap .count
-  pub slots : goal .heap .slots ≡ v .heap .slots
-  pub queue : goal .heap .queue ≡ v .heap .queue
-  pub control : goal .heap .control ≡ v .heap .control
+  pub heap : goal .heap ≡ v .heap
   pub freed : length (goal .freed) ≡ more + length (v .freed)
 
 -- The loop at `head`: the entries before it are freed, those from it to x wait, and what is left to do leads to the goal.
@@ -61,7 +61,7 @@ serve-start k f n s q t w tail d =
       bound = d .bound;
       outside = d .outside;
       draining = d .draining;
-      reaches = rw e (record { kind = refl; flags = refl; count = refl; slots = refl; queue = refl; control = refl; freed = sym (zero-add _) });
+      reaches = rw e (record { heap = refl; freed = sym (zero-add _) });
     }
 
 module _ (k₀ f₀ n₀ s₀ q₀ t₀ w₀ : List ℕ) (tail : ℕ) (k f n s q t w : List ℕ) (x head : ℕ)
@@ -69,7 +69,7 @@ module _ (k₀ f₀ n₀ s₀ q₀ t₀ w₀ : List ℕ) (tail : ℕ) (k f n s q
   next : slice head x w ≡ getD w head 0 ∷ slice (suc head) x w
   next = slice-cons head x w 0 more (omega (arith, g .bound, g .room))
 
-  pub cell-stands : Stands k f s (getD w head 0)
+  pub cell-stands : CellInTables k f s (getD w head 0)
   cell-stands = record {
     kind = serve-range _ _ _ _ _ next (g .draining);
     flags = omega (arith, serve-range _ _ _ _ _ next (g .draining), g .draining .balanced .fit .flags-size);
@@ -80,7 +80,7 @@ module _ (k₀ f₀ n₀ s₀ q₀ t₀ w₀ : List ℕ) (tail : ℕ) (k f n s q
   done-length = length-take-le head w (omega (arith, g .bound, g .room))
 
   -- the references in the cell's slots are due
-  pub cell-due : Due k f n q t w x (slotsOf s (getD w head 0))
+  pub cell-due : ToComeOff k f n q t w x (slotsOf s (getD w head 0))
   unfolding withPending slotsOf
   cell-due = record {
     serving = getD w head 0 ∷ [];
@@ -95,14 +95,20 @@ module _ (k₀ f₀ n₀ s₀ q₀ t₀ w₀ : List ℕ) (tail : ℕ) (k f n s q
   left : length k₀ - head ≡ suc (length k₀ - (head + 1))
   left = omega (arith, work-list _ _ _ _ (g .draining .balanced), done-length, ap length next, g .kind-kept)
 
-  module _ (n′ q′ t′ w′ : List ℕ) (x′ : ℕ) (e : Lowered (decrefs (working k f n [] q t []) (slotsOf s (getD w head 0))) n′ q′ t′ w x w′ x′)
-      (k′ f′ s′ : List ℕ) (z : Wiped k f s (getD w head 0) k′ f′ s′) (kept : length w′ ≡ length w) where
+  module _ (n′ q′ t′ w′ : List ℕ) (x′ : ℕ) (e : CameOff (decrefs (working k f n [] q t []) (slotsOf s (getD w head 0))) n′ q′ t′ w x w′ x′)
+      (k′ f′ s′ : List ℕ) (z : CellWiped k f s (getD w head 0) k′ f′ s′) (kept : length w′ ≡ length w) where
     lowered : Work
     lowered = decrefs (working k f n [] q t []) (slotsOf s (getD w head 0))
 
     listed-length : x′ ≡ x + length (lowered .pending)
     unfolding lowered
-    listed-length = omega (arith, ap length (e .listed), length-append (take x w) (lowered .pending), length-take-le x′ w′ (omega (arith, e .bound, kept, g .room)), length-take-le x w (omega (arith, g .bound, g .room)))
+    listed-length = omega (
+      arith,
+      ap length (e .listed),
+      length-append (take x w) (lowered .pending),
+      length-take-le x′ w′ (omega (arith, e .bound, kept, g .room)),
+      length-take-le x w (omega (arith, g .bound, g .room)),
+    )
 
     -- what waits after the cell
     waiting : slice (suc head) x w ++ lowered .pending ≡ slice (head + 1) x′ w′
@@ -168,7 +174,9 @@ module _ (k₀ f₀ n₀ s₀ q₀ t₀ w₀ : List ℕ) (tail : ℕ) (k f n s q
         → Serving k₀ f₀ n₀ s₀ q₀ t₀ w₀ tail k′ f′ n′ s′ q′ t′ w′ x′ (head + 1)
     unfolding beside
     serve-on lk lf ln ls lq lt =
-        let r : Reaches (drain (length k₀) (working k₀ f₀ n₀ s₀ q₀ t₀ (take tail w₀))) (beside [] (getD w head 0 ∷ []) (lowered .queued) (drain (length k₀ - (head + 1)) (working k′ f′ n′ s′ q′ t′ (slice (head + 1) x′ w′)))) head =
+        let r : Reaches
+        (drain (length k₀) (working k₀ f₀ n₀ s₀ q₀ t₀ (take tail w₀)))
+        (beside [] (getD w head 0 ∷ []) (lowered .queued) (drain (length k₀ - (head + 1)) (working k′ f′ n′ s′ q′ t′ (slice (head + 1) x′ w′)))) head =
         subst (λ (u : Work). Reaches (drain (length k₀) (working k₀ f₀ n₀ s₀ q₀ t₀ (take tail w₀))) u head) drain-is (g .reaches) in
         record {
           kind-kept = lk ∙ g .kind-kept;
@@ -183,15 +191,18 @@ module _ (k₀ f₀ n₀ s₀ q₀ t₀ w₀ : List ℕ) (tail : ℕ) (k f n s q
           bound = e .bound;
           outside = g .outside;
           draining = next-draining;
-          reaches = record { kind = r .kind; flags = r .flags; count = r .count; slots = r .slots; queue = r .queue; control = r .control; freed = omega (arith, r .freed) };
+          reaches = record {
+            heap = r .heap ∙ drain-rootless (length k₀ - (head + 1)) k′ f′ n′ s′ q′ t′ (slice (head + 1) x′ w′);
+            freed = omega (arith, r .freed);
+          };
         }
 
 pub serve-end : (k₀ f₀ n₀ s₀ q₀ t₀ w₀ : List ℕ) (tail : ℕ) (k f n s q t w : List ℕ) (x head : ℕ)
     → Serving k₀ f₀ n₀ s₀ q₀ t₀ w₀ tail k f n s q t w x head → x ≤ head
-    → Holds (drain (length k₀) (working k₀ f₀ n₀ s₀ q₀ t₀ (take tail w₀))) k f n s q t head
+    → WorkDone (drain (length k₀) (working k₀ f₀ n₀ s₀ q₀ t₀ (take tail w₀))) k f n s q t head
 serve-end k₀ f₀ n₀ s₀ q₀ t₀ w₀ tail k f n s q t w x head g h =
     let none : slice head x w ≡ [] = drop-of-length-le (take x w) {i = head} (omega (arith, length-take-le x w (omega (arith, g .bound, g .room)))) in
     let r : Reaches (drain (length k₀) (working k₀ f₀ n₀ s₀ q₀ t₀ (take tail w₀))) (working k f n s q t (slice head x w)) head =
     subst (λ (u : Work). Reaches (drain (length k₀) (working k₀ f₀ n₀ s₀ q₀ t₀ (take tail w₀))) u head)
     (drain-empty (length k₀ - head) (working k f n s q t (slice head x w)) none) (g .reaches) in
-    record { kind = sym (r .kind); flags = sym (r .flags); count = sym (r .count); slots = sym (r .slots); queue = sym (r .queue); control = sym (r .control); freed = omega (arith, r .freed); few = omega (arith, g .ahead, g .bound) }
+    record { heap = sym (r .heap); freed = omega (arith, r .freed); few = omega (arith, g .ahead, g .bound) }

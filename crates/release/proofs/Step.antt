@@ -13,7 +13,7 @@ use lib.Seq.{set-getD, take-suc-set}
 use Rattle.rules.specs.Heap.{tables, setCount, setQueue, enqueue}
 use Rattle.rules.specs.Release.{Work, decref, lower, refzero, finalizable}
 use Rattle.laws.specs.Lists.Tests.{and-join, and-no}
-use Rattle.release.specs.Steps.{working, Lowered}
+use Rattle.release.specs.Steps.{working, CameOff}
 
 module _ (k f n q t : List ℕ) (c : ℕ) where
   pub plain-kind : (getD k c 0 ≡ 1 → ⊥) → finalizable (tables k f n [] [] q t) c ≡ false
@@ -26,10 +26,10 @@ module _ (k f n q t : List ℕ) (c : ℕ) where
 
 module _ (k f n q t before : List ℕ) (tail : ℕ) (bound : tail ≤ 1024) where
   -- an empty reference
-  pub none : (r : ℕ) → r ≡ 0 → Lowered (decref (working k f n [] q t []) r) n q t before tail before tail
+  pub came-off-none : (r : ℕ) → r ≡ 0 → CameOff (decref (working k f n [] q t []) r) n q t before tail before tail
   unfolding decref
-  none r e =
-      subst⁻¹ (λ (x : ℕ). Lowered (decref (working k f n [] q t []) x) n q t before tail before tail) e
+  came-off-none r e =
+      subst⁻¹ (λ (x : ℕ). CameOff (decref (working k f n [] q t []) x) n q t before tail before tail) e
       (record { count = refl; queue = refl; control = refl; listed = sym (append-nil _); bound = bound })
 
   module _ (r : ℕ) (some : r ≡ 0 → ⊥) where
@@ -41,30 +41,30 @@ module _ (k f n q t before : List ℕ) (tail : ℕ) (bound : tail ≤ 1024) wher
 
     -- the count stays above zero
     pub many : 1 < getD n (r - 1) 0
-        → Lowered (decref (working k f n [] q t []) r) (set n (r - 1) (getD n (r - 1) 0 - 1)) q t before tail before tail
+        → CameOff (decref (working k f n [] q t []) r) (set n (r - 1) (getD n (r - 1) 0 - 1)) q t before tail before tail
     unfolding lower setCount
     many h =
         let x : ℕ = getD n (r - 1) 0 in
         let e : getD n (r - 1) 0 ≡ suc (suc (x - 2)) = omega arith in
         let less : x - 1 ≡ suc (x - 2) = omega arith in
-        subst⁻¹ (λ (w : Work). Lowered w (set n (r - 1) (x - 1)) q t before tail before tail) (at (suc (suc (x - 2))) e)
+        subst⁻¹ (λ (w : Work). CameOff w (set n (r - 1) (x - 1)) q t before tail before tail) (at (suc (suc (x - 2))) e)
         (record { count = ap (set n (r - 1)) less; queue = refl; control = refl; listed = sym (append-nil _); bound = bound })
 
     -- it falls to zero
     pub at-zero : (n′ q′ t′ after : List ℕ) (next : ℕ) → getD n (r - 1) 0 ≡ 1
-        → Lowered (refzero (finalizable (tables k f n [] [] q t) (r - 1)) (working k f n [] q t []) (r - 1)) n′ q′ t′ before tail after next
-        → Lowered (decref (working k f n [] q t []) r) n′ q′ t′ before tail after next
+        → CameOff (refzero (finalizable (tables k f n [] [] q t) (r - 1)) (working k f n [] q t []) (r - 1)) n′ q′ t′ before tail after next
+        → CameOff (decref (working k f n [] q t []) r) n′ q′ t′ before tail after next
     unfolding lower
-    at-zero n′ q′ t′ after next e l = subst⁻¹ (λ (w : Work). Lowered w n′ q′ t′ before tail after next) (at 1 e) l
+    at-zero n′ q′ t′ after next e l = subst⁻¹ (λ (w : Work). CameOff w n′ q′ t′ before tail after next) (at 1 e) l
 
     -- the cell joins the queue
     pub queues : getD n (r - 1) 0 ≡ 1 → getD k (r - 1) 0 ≡ 1 → getD f (r - 1) 0 ≡ 1
-        → Lowered (refzero (finalizable (tables k f n [] [] q t) (r - 1)) (working k f n [] q t []) (r - 1)) n (set q (getD t 0 0) r) (set t 0 (getD t 0 0 + 1)) before tail before tail
+        → CameOff (refzero (finalizable (tables k f n [] [] q t) (r - 1)) (working k f n [] q t []) (r - 1)) n (set q (getD t 0 0) r) (set t 0 (getD t 0 0 + 1)) before tail before tail
     unfolding refzero finalizable setCount enqueue setQueue
     queues last kind flags =
         let yes : finalizable (tables k f n [] [] q t) (r - 1) ≡ true = and-join (eq-eqb (getD k (r - 1) 0) 1 kind) (eq-eqb (getD f (r - 1) 0) 1 flags) in
         let whole : r ≡ suc (r - 1) = omega arith in
-        subst⁻¹ (λ (b : Bool). Lowered (refzero b (working k f n [] q t []) (r - 1)) n (set q (getD t 0 0) r) (set t 0 (getD t 0 0 + 1)) before tail before tail) yes
+        subst⁻¹ (λ (b : Bool). CameOff (refzero b (working k f n [] q t []) (r - 1)) n (set q (getD t 0 0) r) (set t 0 (getD t 0 0 + 1)) before tail before tail) yes
         (record {
           count = sym (ap (set n (r - 1)) (sym last) ∙ set-getD n (r - 1) 0);
           queue = ap (set q (getD t 0 0)) whole;
@@ -75,8 +75,8 @@ module _ (k f n q t before : List ℕ) (tail : ℕ) (bound : tail ≤ 1024) wher
 
   -- the cell joins the work list
   pub lists : (c : ℕ) → finalizable (tables k f n [] [] q t) c ≡ false → tail < length before → length before ≡ 1024
-      → Lowered (refzero (finalizable (tables k f n [] [] q t) c) (working k f n [] q t []) c) (set n c 0) q t before tail (set before tail c) (tail + 1)
+      → CameOff (refzero (finalizable (tables k f n [] [] q t) c) (working k f n [] q t []) c) (set n c 0) q t before tail (set before tail c) (tail + 1)
   unfolding refzero setCount
   lists c plain room small =
-      subst⁻¹ (λ (b : Bool). Lowered (refzero b (working k f n [] q t []) c) (set n c 0) q t before tail (set before tail c) (tail + 1)) plain
+      subst⁻¹ (λ (b : Bool). CameOff (refzero b (working k f n [] q t []) c) (set n c 0) q t before tail (set before tail c) (tail + 1)) plain
       (record { count = refl; queue = refl; control = refl; listed = rw add-one (take-suc-set before tail c room); bound = omega arith })

@@ -12,15 +12,15 @@ use Rattle.rules.specs.Calls.{answers, writeRoot, writeSlot}
 use Rattle.laws.specs.Lists.Tables.{inside}
 use Rattle.laws.specs.Sound.But.{SoundBut}
 use Rattle.laws.specs.Calls.Write.{count-bound, write-root-ready, write-slot-ready}
-use Rattle.release.specs.Release.{begun, Raisable, Releasable, Holds}
-use Rattle.release.specs.Write.{Writable, SlotWritable, Wrote}
-use Rattle.release.specs.Whole.{releasable, HoldsFrom, whole}
+use Rattle.release.specs.Release.{begun, Raisable, Releasable, WorkDone}
+use Rattle.release.specs.Write.{Writable, SlotWritable, WorkFinished}
+use Rattle.release.proofs.Whole.{releasable, WorkDoneFrom, whole}
 
 -- ---- a count
 
 -- a reference that is not empty names cell r - 1
-pub some : {r : ℕ} → (r ≡ 0 → ⊥) → r ≡ suc (r - 1)
-some n = omega arith
+pub names-cell : {r : ℕ} → (r ≡ 0 → ⊥) → r ≡ suc (r - 1)
+names-cell n = omega arith
 
 pub raised-at : (n : List ℕ) (r : ℕ) → (r ≡ 0 → ⊥) → set n (r - 1) (getD n (r - 1) 0 + 1) ≡ raise n r
 unfolding raise
@@ -33,15 +33,15 @@ raised-at n (suc c) not =
 pub raisable : (h : Heap) (r : ℕ) → SoundBut h [] → ((c : ℕ) → r ≡ suc c → 1 ≤ getD (h .kind) c 0) → Raisable (h .count) r
 raisable h r s used = record {
   range = λ c e. omega (arith, inside (h .kind) c (used c e), s .fit .count-size);
-  fits = λ c e. omega (arith, count-bound h [] s c);
+  fits16 = λ c e. omega (arith, count-bound h [] s c);
 }
 
 -- ---- the end of a call
 
 -- the take-off is the same with any roots, and the answer says what it freed and queued
 module _ (k f n s q t : List ℕ) (r : ℕ) (p : Releasable k f n s q t r) (k′ f′ n′ s′ q′ t′ : List ℕ) (d : ℕ)
-    (h : Holds (release (begun k f n s q t) r) k′ f′ n′ s′ q′ t′ d) where
-  from : (roots : List ℕ) → HoldsFrom (start (tables k f n s roots q t)) (release (start (tables k f n s roots q t)) r) k′ f′ n′ s′ q′ t′ d
+    (h : WorkDone (release (begun k f n s q t) r) k′ f′ n′ s′ q′ t′ d) where
+  from : (roots : List ℕ) → WorkDoneFrom (start (tables k f n s roots q t)) (release (start (tables k f n s roots q t)) r) k′ f′ n′ s′ q′ t′ d
   unfolding start
   from roots = whole (start (tables k f n s roots q t)) r p k′ f′ n′ s′ q′ t′ d refl h
 
@@ -49,7 +49,7 @@ module _ (k f n s q t : List ℕ) (r : ℕ) (p : Releasable k f n s q t r) (k′
   unfolding start
   queue-grows = omega (arith, from [] .queued)
 
-  pub took : (roots : List ℕ) → Wrote (release (start (tables k f n s roots q t)) r) k′ f′ n′ s′ roots q′ t′ (answers 0 d (getD t′ 0 0 - getD t 0 0) 0)
+  pub took : (roots : List ℕ) → WorkFinished (release (start (tables k f n s roots q t)) r) k′ f′ n′ s′ roots q′ t′ (answers 0 d (getD t′ 0 0 - getD t 0 0) 0)
   unfolding start
   took roots =
       let g = from roots in
@@ -57,14 +57,8 @@ module _ (k f n s q t : List ℕ) (r : ℕ) (p : Releasable k f n s q t r) (k′
       let freed : d ≡ length (v .freed) = omega (arith, g .freed) in
       let queued : getD t′ 0 0 - getD t 0 0 ≡ length (v .queued) = omega (arith, g .queued) in
       record {
-        kind = g .kind;
-        flags = g .flags;
-        count = g .count;
-        slots = g .slots;
-        roots = g .roots;
-        queue = g .queue;
-        control = g .control;
-        answer = λ i. answers 0 (freed i) (queued i) 0;
+        heap = g .heap;
+        answered = λ i. answers 0 (freed i) (queued i) 0;
       }
 
 -- ---- a root
@@ -79,12 +73,12 @@ module _ (k f n s ro q t : List ℕ) (to r : ℕ) (w : Writable k f n s ro q t t
       (releasable (setRoot (incref (tables k f n s ro q t) r) to r) (getD ro to 0) [] (write-root-ready (tables k f n s ro q t) to r (w .small) (w .used) (w .sound))))
 
   pub root-done : (k₁ f₁ n₁ s₁ q₁ t₁ : List ℕ) (a : Answer)
-      → ((roots : List ℕ) → Wrote (release (start (tables k f n′ s roots q t)) (getD ro i 0)) k₁ f₁ n₁ s₁ roots q₁ t₁ a)
-      → Wrote (writeRoot (tables k f n s ro q t) to r) k₁ f₁ n₁ s₁ (set ro i r) q₁ t₁ a
+      → ((roots : List ℕ) → WorkFinished (release (start (tables k f n′ s roots q t)) (getD ro i 0)) k₁ f₁ n₁ s₁ roots q₁ t₁ a)
+      → WorkFinished (writeRoot (tables k f n s ro q t) to r) k₁ f₁ n₁ s₁ (set ro i r) q₁ t₁ a
   unfolding incref setRoot writeRoot
   root-done k₁ f₁ n₁ s₁ q₁ t₁ a g =
-      subst (λ (j : ℕ). Wrote (release (start (tables k f (raise n r) s (set ro j r) q t)) (getD ro j 0)) k₁ f₁ n₁ s₁ (set ro i r) q₁ t₁ a) at
-      (subst (λ (l : List ℕ). Wrote (release (start (tables k f l s (set ro i r) q t)) (getD ro i 0)) k₁ f₁ n₁ s₁ (set ro i r) q₁ t₁ a) e (g (set ro i r)))
+      subst (λ (j : ℕ). WorkFinished (release (start (tables k f (raise n r) s (set ro j r) q t)) (getD ro j 0)) k₁ f₁ n₁ s₁ (set ro i r) q₁ t₁ a) at
+      (subst (λ (l : List ℕ). WorkFinished (release (start (tables k f l s (set ro i r) q t)) (getD ro i 0)) k₁ f₁ n₁ s₁ (set ro i r) q₁ t₁ a) e (g (set ro i r)))
 
 -- ---- a slot
 
@@ -105,9 +99,9 @@ module _ (k f n s q t : List ℕ) (cell slot r : ℕ) (w : SlotWritable k f n s 
         (releasable (setSlot (incref h r) (8 * cell + slot) r) (getD s (8 * cell + slot) 0) [] (write-slot-ready h cell slot r (w .small) (w .object) (w .used) (w .sound))))
 
     pub slot-done : (k₁ f₁ n₁ s₁ q₁ t₁ : List ℕ) (a : Answer)
-        → ((roots : List ℕ) → Wrote (release (start (tables k f n′ (set s i r) roots q t)) (getD s i 0)) k₁ f₁ n₁ s₁ roots q₁ t₁ a)
-        → (roots : List ℕ) → Wrote (writeSlot (tables k f n s roots q t) cell slot r) k₁ f₁ n₁ s₁ roots q₁ t₁ a
+        → ((roots : List ℕ) → WorkFinished (release (start (tables k f n′ (set s i r) roots q t)) (getD s i 0)) k₁ f₁ n₁ s₁ roots q₁ t₁ a)
+        → (roots : List ℕ) → WorkFinished (writeSlot (tables k f n s roots q t) cell slot r) k₁ f₁ n₁ s₁ roots q₁ t₁ a
     unfolding incref setSlot writeSlot
     slot-done k₁ f₁ n₁ s₁ q₁ t₁ a g roots =
-        subst (λ (j : ℕ). Wrote (release (start (tables k f (raise n r) (set s j r) roots q t)) (getD s j 0)) k₁ f₁ n₁ s₁ roots q₁ t₁ a) at
-        (subst (λ (l : List ℕ). Wrote (release (start (tables k f l (set s i r) roots q t)) (getD s i 0)) k₁ f₁ n₁ s₁ roots q₁ t₁ a) e (g roots))
+        subst (λ (j : ℕ). WorkFinished (release (start (tables k f (raise n r) (set s j r) roots q t)) (getD s j 0)) k₁ f₁ n₁ s₁ roots q₁ t₁ a) at
+        (subst (λ (l : List ℕ). WorkFinished (release (start (tables k f l (set s i r) roots q t)) (getD s i 0)) k₁ f₁ n₁ s₁ roots q₁ t₁ a) e (g roots))

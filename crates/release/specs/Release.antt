@@ -15,20 +15,15 @@ begun kind flags count slots queue control = start (tables kind flags count slot
 -- a count that can rise by one: the reference is empty, or its cell is in the table and the count below the largest 16-bit number
 pub record Raisable (count : List ℕ) (r : ℕ) : Type 0 where
   pub range : (c : ℕ) → r ≡ suc c → c < length count
-  pub fits : (c : ℕ) → r ≡ suc c → getD count c 0 < 65535
+  pub fits16 : (c : ℕ) → r ≡ suc c → getD count c 0 < 65535
 
 -- Every count is the number of references, where r is counted and stands nowhere; `outside` are those besides the slots and the queue.
 pub record Releasable (kind flags count slots queue control : List ℕ) (r : ℕ) : Type 0 where
   pub outside : List ℕ
   pub settled : Settled (begun kind flags count slots queue control) (r ∷ outside)
 
--- the tables are those of v, and d cells were freed
-pub record Holds (v : Work) (k f n s q t : List ℕ) (d : ℕ) : Type 0 where
-  pub kind : k ≡ v .heap .kind
-  pub flags : f ≡ v .heap .flags
-  pub count : n ≡ v .heap .count
-  pub slots : s ≡ v .heap .slots
-  pub queue : q ≡ v .heap .queue
-  pub control : t ≡ v .heap .control
+-- The tables are those of v, which has no roots, as the work that it came from; and d cells were freed.
+pub record WorkDone (v : Work) (k f n s q t : List ℕ) (d : ℕ) : Type 0 where
+  pub heap : tables k f n s [] q t ≡ v .heap
   pub freed : d ≡ length (v .freed)
   pub few : d ≤ 1024

@@ -14,7 +14,7 @@ abbrev pub working : (kind flags count slots queue control pending : List ℕ) �
 working kind flags count slots queue control pending = record { heap = tables kind flags count slots [] queue control; pending = pending; freed = []; queued = [] }
 
 -- The references `due` are to come off. Of the work list's cells `done` are freed, `serving` is being served and `pending` wait.
-pub record Due (kind flags count queue control work : List ℕ) (tail : ℕ) (due : List ℕ) : Type 0 where
+pub record ToComeOff (kind flags count queue control work : List ℕ) (tail : ℕ) (due : List ℕ) : Type 0 where
   pub serving : List ℕ
   pub done : List ℕ
   pub pending : List ℕ
@@ -24,13 +24,13 @@ pub record Due (kind flags count queue control work : List ℕ) (tail : ℕ) (du
   pub balanced : Balanced (working kind flags count [] queue control pending) serving done (due ++ held)
 
 -- the same for r alone, which is the last reference to its cell
-pub record LastDue (kind flags count queue control work : List ℕ) (tail r : ℕ) : Type 0 where
-  pub due : Due kind flags count queue control work tail (r ∷ [])
+pub record LastToComeOff (kind flags count queue control work : List ℕ) (tail r : ℕ) : Type 0 where
+  pub due : ToComeOff kind flags count queue control work tail (r ∷ [])
   pub some : 1 ≤ r
   pub last : getD count (r - 1) 0 ≡ 1
 
 -- The tables c q t and the work list's new entries are those of v: the list had `tail` entries of `before`, and has `next` of `after`.
-pub record Lowered (v : Work) (c q t before : List ℕ) (tail : ℕ) (after : List ℕ) (next : ℕ) : Type 0 where
+pub record CameOff (v : Work) (c q t before : List ℕ) (tail : ℕ) (after : List ℕ) (next : ℕ) : Type 0 where
   pub count : c ≡ v .heap .count
   pub queue : q ≡ v .heap .queue
   pub control : t ≡ v .heap .control
@@ -38,13 +38,13 @@ pub record Lowered (v : Work) (c q t before : List ℕ) (tail : ℕ) (after : Li
   pub bound : next ≤ 1024
 
 -- cell c stands in the tables
-pub record Stands (k f s : List ℕ) (c : ℕ) : Type 0 where
+pub record CellInTables (k f s : List ℕ) (c : ℕ) : Type 0 where
   pub kind : c < length k
   pub flags : c < length f
   pub slots : 8 * c + 8 ≤ length s
 
 -- cell c is all zeros in k′ f′ s′, which are k f s otherwise
-pub record Wiped (k f s : List ℕ) (c : ℕ) (k′ f′ s′ : List ℕ) : Type 0 where
+pub record CellWiped (k f s : List ℕ) (c : ℕ) (k′ f′ s′ : List ℕ) : Type 0 where
   pub kind : k′ ≡ set k c 0
   pub flags : f′ ≡ set f c 0
   pub slots : s′ ≡ emptied s c

@@ -25,12 +25,6 @@ pub record SlotWritable (kind flags count slots queue control : List ℕ) (cell 
   pub used : (c : ℕ) → r ≡ suc c → 1 ≤ getD kind c 0
 
 -- The tables are those of v, and the answer is that of a call that is done: how many cells it freed and queued.
-pub record Wrote (v : Work) (k f n s r q t : List ℕ) (a : Answer) : Type 0 where
-  pub kind : k ≡ v .heap .kind
-  pub flags : f ≡ v .heap .flags
-  pub count : n ≡ v .heap .count
-  pub slots : s ≡ v .heap .slots
-  pub roots : r ≡ v .heap .roots
-  pub queue : q ≡ v .heap .queue
-  pub control : t ≡ v .heap .control
-  pub answer : a ≡ answers 0 (length (v .freed)) (length (v .queued)) 0
+pub record WorkFinished (v : Work) (k f n s r q t : List ℕ) (a : Answer) : Type 0 where
+  pub heap : tables k f n s r q t ≡ v .heap
+  pub answered : a ≡ answers 0 (length (v .freed)) (length (v .queued)) 0

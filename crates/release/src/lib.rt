@@ -13,9 +13,9 @@ ghost use Rattle.rules.specs.Heap.{tables, slotsOf};
 ghost use Rattle.rules.specs.Release.{start, raise, finalizable, refzero, decref, decrefs, drain, release};
 ghost use Rattle.rules.specs.Calls.{writeRoot, writeSlot};
 ghost use Rattle.laws.specs.Release.Serve.{emptied};
-ghost use Rattle.release.specs.Release.{begun, Raisable, Releasable, Holds};
-ghost use Rattle.release.specs.Steps.{working, Due, LastDue, Lowered, Stands, Wiped, Drainable};
-ghost use Rattle.release.specs.Write.{Writable, SlotWritable, Wrote};
+ghost use Rattle.release.specs.Release.{begun, Raisable, Releasable, WorkDone};
+ghost use Rattle.release.specs.Steps.{working, ToComeOff, LastToComeOff, CameOff, CellInTables, CellWiped, Drainable};
+ghost use Rattle.release.specs.Write.{Writable, SlotWritable, WorkFinished};
 
 // The last reference to a cell comes off. An object with a finalizer to run joins the queue, whose entry is a reference,
 // so that its count stays 1; any other cell joins the work list.
@@ -29,8 +29,8 @@ fn refzero(
     tail: usize,
     r: u16,
 ) -> usize
-    requires { ⌜ LastDue (now kind) (now flags) (now count) (now queue) (now control) (now work) tail r ⌝ }
-    ensures { λ t. ⌜ Lowered (refzero (finalizable (tables (now (kind .entry)) (now (flags .entry)) (now (count .entry)) [] [] (now (queue .entry)) (now (control .entry))) (r - 1))
+    requires { ⌜ LastToComeOff (now kind) (now flags) (now count) (now queue) (now control) (now work) tail r ⌝ }
+    ensures { λ t. ⌜ CameOff (refzero (finalizable (tables (now (kind .entry)) (now (flags .entry)) (now (count .entry)) [] [] (now (queue .entry)) (now (control .entry))) (r - 1))
         (working (now (kind .entry)) (now (flags .entry)) (now (count .entry)) [] (now (queue .entry)) (now (control .entry)) []) (r - 1))
         (now (count .exit)) (now (queue .exit)) (now (control .exit)) (now (work .entry)) tail (now (work .exit)) t ⌝ }
 {
@@ -60,8 +60,8 @@ fn decref(
     tail: usize,
     r: u16,
 ) -> usize
-    requires { ⌜ Due (now kind) (now flags) (now count) (now queue) (now control) (now work) tail (r ∷ []) ⌝ }
-    ensures { λ t. ⌜ Lowered (decref (working (now (kind .entry)) (now (flags .entry)) (now (count .entry)) [] (now (queue .entry)) (now (control .entry)) []) r)
+    requires { ⌜ ToComeOff (now kind) (now flags) (now count) (now queue) (now control) (now work) tail (r ∷ []) ⌝ }
+    ensures { λ t. ⌜ CameOff (decref (working (now (kind .entry)) (now (flags .entry)) (now (count .entry)) [] (now (queue .entry)) (now (control .entry)) []) r)
         (now (count .exit)) (now (queue .exit)) (now (control .exit)) (now (work .entry)) tail (now (work .exit)) t ⌝ }
 {
     if r == 0 {
@@ -92,8 +92,8 @@ fn decref_slots(
     tail: usize,
     c: usize,
 ) -> usize
-    requires { ⌜ (8 * c + 8 ≤ length (now slots)) × Due (now kind) (now flags) (now count) (now queue) (now control) (now work) tail (slotsOf (now slots) c) ⌝ }
-    ensures { λ t. ⌜ Lowered (decrefs (working (now (kind .entry)) (now (flags .entry)) (now (count .entry)) [] (now (queue .entry)) (now (control .entry)) []) (slotsOf (now (slots .entry)) c))
+    requires { ⌜ (8 * c + 8 ≤ length (now slots)) × ToComeOff (now kind) (now flags) (now count) (now queue) (now control) (now work) tail (slotsOf (now slots) c) ⌝ }
+    ensures { λ t. ⌜ CameOff (decrefs (working (now (kind .entry)) (now (flags .entry)) (now (count .entry)) [] (now (queue .entry)) (now (control .entry)) []) (slotsOf (now (slots .entry)) c))
         (now (count .exit)) (now (queue .exit)) (now (control .exit)) (now (work .entry)) tail (now (work .exit)) t ⌝ }
 {
     let mut t = tail;
@@ -121,8 +121,8 @@ fn zero_slots(slots: &mut [u16], c: usize)
 
 // Cell c becomes all zeros. Its count is 0 already.
 fn wipe(kind: &mut [u16], flags: &mut [u16], slots: &mut [u16], c: usize)
-    requires { ⌜ Stands (now kind) (now flags) (now slots) c ⌝ }
-    ensures { λ _. ⌜ Wiped (now (kind .entry)) (now (flags .entry)) (now (slots .entry)) c (now (kind .exit)) (now (flags .exit)) (now (slots .exit)) ⌝ }
+    requires { ⌜ CellInTables (now kind) (now flags) (now slots) c ⌝ }
+    ensures { λ _. ⌜ CellWiped (now (kind .entry)) (now (flags .entry)) (now (slots .entry)) c (now (kind .exit)) (now (flags .exit)) (now (slots .exit)) ⌝ }
 {
     kind[c] = 0;
     flags[c] = 0;
@@ -141,7 +141,7 @@ fn drain(
     tail: usize,
 ) -> u16
     requires { ⌜ Drainable (now kind) (now flags) (now count) (now slots) (now queue) (now control) (now work) tail ⌝ }
-    ensures { λ d. ⌜ Holds (drain (length (now (kind .entry))) (working (now (kind .entry)) (now (flags .entry)) (now (count .entry)) (now (slots .entry)) (now (queue .entry)) (now (control .entry)) (take tail (now (work .entry)))))
+    ensures { λ d. ⌜ WorkDone (drain (length (now (kind .entry))) (working (now (kind .entry)) (now (flags .entry)) (now (count .entry)) (now (slots .entry)) (now (queue .entry)) (now (control .entry)) (take tail (now (work .entry)))))
         (now (kind .exit)) (now (flags .exit)) (now (count .exit)) (now (slots .exit)) (now (queue .exit)) (now (control .exit)) d ⌝ }
 {
     let mut t = tail;
@@ -166,7 +166,7 @@ pub fn release(
     r: u16,
 ) -> u16
     requires { ⌜ Releasable (now kind) (now flags) (now count) (now slots) (now queue) (now control) r ⌝ }
-    ensures { λ d. ⌜ Holds (release (begun (now (kind .entry)) (now (flags .entry)) (now (count .entry)) (now (slots .entry)) (now (queue .entry)) (now (control .entry))) r)
+    ensures { λ d. ⌜ WorkDone (release (begun (now (kind .entry)) (now (flags .entry)) (now (count .entry)) (now (slots .entry)) (now (queue .entry)) (now (control .entry))) r)
         (now (kind .exit)) (now (flags .exit)) (now (count .exit)) (now (slots .exit)) (now (queue .exit)) (now (control .exit)) d ⌝ }
 {
     if r == 0 {
@@ -207,7 +207,7 @@ fn take_off(
     r: u16,
 ) -> Answer
     requires { ⌜ Releasable (now kind) (now flags) (now count) (now slots) (now queue) (now control) r ⌝ }
-    ensures { λ a. ⌜ ((roots : List ℕ) → Wrote (release (start (tables (now (kind .entry)) (now (flags .entry)) (now (count .entry)) (now (slots .entry)) roots (now (queue .entry)) (now (control .entry)))) r)
+    ensures { λ a. ⌜ ((roots : List ℕ) → WorkFinished (release (start (tables (now (kind .entry)) (now (flags .entry)) (now (count .entry)) (now (slots .entry)) roots (now (queue .entry)) (now (control .entry)))) r)
         (now (kind .exit)) (now (flags .exit)) (now (count .exit)) (now (slots .exit)) roots (now (queue .exit)) (now (control .exit)) a) ⌝ }
 {
     let before = control[0];
@@ -234,7 +234,7 @@ pub fn write_root(
     r: u16,
 ) -> Answer
     requires { ⌜ Writable (now kind) (now flags) (now count) (now slots) (now roots) (now queue) (now control) (to .0) r ⌝ }
-    ensures { λ a. ⌜ Wrote (writeRoot (tables (now (kind .entry)) (now (flags .entry)) (now (count .entry)) (now (slots .entry)) (now (roots .entry)) (now (queue .entry)) (now (control .entry))) (to .0) r)
+    ensures { λ a. ⌜ WorkFinished (writeRoot (tables (now (kind .entry)) (now (flags .entry)) (now (count .entry)) (now (slots .entry)) (now (roots .entry)) (now (queue .entry)) (now (control .entry))) (to .0) r)
         (now (kind .exit)) (now (flags .exit)) (now (count .exit)) (now (slots .exit)) (now (roots .exit)) (now (queue .exit)) (now (control .exit)) a ⌝ }
 {
     let i = to.index();
@@ -257,7 +257,7 @@ pub fn write_slot(
     r: u16,
 ) -> Answer
     requires { ⌜ SlotWritable (now kind) (now flags) (now count) (now slots) (now queue) (now control) (cell .0) (slot .0) r ⌝ }
-    ensures { λ a. ⌜ ((roots : List ℕ) → Wrote (writeSlot (tables (now (kind .entry)) (now (flags .entry)) (now (count .entry)) (now (slots .entry)) roots (now (queue .entry)) (now (control .entry))) (cell .0) (slot .0) r)
+    ensures { λ a. ⌜ ((roots : List ℕ) → WorkFinished (writeSlot (tables (now (kind .entry)) (now (flags .entry)) (now (count .entry)) (now (slots .entry)) roots (now (queue .entry)) (now (control .entry))) (cell .0) (slot .0) r)
         (now (kind .exit)) (now (flags .exit)) (now (count .exit)) (now (slots .exit)) roots (now (queue .exit)) (now (control .exit)) a) ⌝ }
 {
     let i = 8 * cell.index() + slot.index();

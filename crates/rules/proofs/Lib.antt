@@ -1,2 +1,1 @@
 pub mod CounterBook
-pub mod Asked

@@ -26,13 +26,13 @@ unfoldable pub unusedZero : ℕ → ℕ → ℕ → ℕ → Bool
 unusedZero u x y z = usedOrZero u 1 x && usedOrZero u 2 y && usedOrZero u 3 z
 
 -- "the call's number 1 to 8"; 0 names none
-abbrev pub calls : ℕ → ℕ → ℕ → List Asked
-calls x y z =
+abbrev pub callsByNumber : ℕ → ℕ → ℕ → List Asked
+callsByNumber x y z =
     LINE ∷ call (NEW x y z) ∷ call (CLEAR x) ∷ call (COPY x y) ∷ call (LOAD x y z) ∷ call (STORE x y z) ∷ call COLLECT ∷ call (START x) ∷ call FINISH ∷ []
 
 -- from 9 up none either
-unfoldable pub named : ℕ → ℕ → ℕ → ℕ → Asked
-named n x y z = getD (calls x y z) n LINE
+unfoldable pub callNumbered : ℕ → ℕ → ℕ → ℕ → Asked
+callNumbered n x y z = getD (callsByNumber x y z) n LINE
 
 unfoldable pub callOf : ℕ → ℕ → ℕ → ℕ → Asked
-callOf n x y z = cond (unusedZero (uses n) x y z) (named n x y z) LINE
+callOf n x y z = cond (unusedZero (uses n) x y z) (callNumbered n x y z) LINE

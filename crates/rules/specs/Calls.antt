@@ -96,6 +96,23 @@ abbrev pub Trace : Heap → List Event → Type 0
 Trace h [] = Unit
 Trace h (e ∷ l) = Did (e .call) h (e .after) (e .answer) × Trace (e .after) l
 
+-- event e of a list that starts on the tables h finds the tables `before`
+pub data Finds : Heap → List Event → Heap → Event → Type 0 where
+  here : {h : Heap} {e : Event} {l : List Event} → Finds h (e ∷ l) h e
+  later : {h before : Heap} {d e : Event} {l : List Event} → Finds (d .after) l before e → Finds h (d ∷ l) before e
+
+-- tables as they are before the first call of the list, or after one of its calls
+pub data Between : Heap → List Event → Heap → Type 0 where
+  first : {h : Heap} {l : List Event} → Between h l h
+  behind : {h g : Heap} {d : Event} {l : List Event} → Between (d .after) l g → Between h (d ∷ l) g
+
+-- "Demand 3's list starts from a FRESH done on tables of any N, whatever stood there": the tables that it leaves
+pub record Begins (h : Heap) : Type 0 where
+  pub stale : Heap
+  pub answer : Answer
+  pub did : Did FRESH stale h answer
+  pub done : answer .refused ≡ 0
+
 -- the trace that a list of calls makes
 unfoldable pub run : Heap → List Call → List Event
 run h [] = []

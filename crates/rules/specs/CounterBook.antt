@@ -40,8 +40,8 @@ ok = answers 0 0 0 0
 abbrev frees : ℕ → ℕ → Answer
 frees f q = answers 0 f q 0
 
-abbrev refused : ℕ → Answer
-refused r = answers r 0 0 0
+abbrev refusedBy : ℕ → Answer
+refusedBy r = answers r 0 0 0
 
 -- NEW of an object, an object with a finalizer ("fin"), a string
 abbrev object : ℕ → ℕ → Line
@@ -71,7 +71,7 @@ rescuing = started ++ (then (COPY 1 0) ∷ line FINISH (frees 0 0) (count 0 1 �
 unfoldable pub book : List Example
 book =
     -- K1
-    record { cells = 1; lines = object 0 0 ∷ line (NEW 1 1 0) (refused 7) [] ∷ line (CLEAR 0) (frees 1 0) [] ∷ object 0 0 ∷ [] }
+    record { cells = 1; lines = object 0 0 ∷ line (NEW 1 1 0) (refusedBy 7) [] ∷ line (CLEAR 0) (frees 1 0) [] ∷ object 0 0 ∷ [] }
     -- K2
     ∷ of4 (object 0 0 ∷ string 1 1 ∷ then (STORE 0 0 1) ∷ then (CLEAR 1) ∷ line (CLEAR 0) (frees 2 0) [] ∷ [])
     -- K3
@@ -96,22 +96,22 @@ book =
     ∷ of4 (object 0 0 ∷ fin 1 1 ∷ string 2 2 ∷ then (STORE 1 0 2) ∷ then (STORE 0 0 1) ∷ then (CLEAR 2) ∷ then (CLEAR 1)
     ∷ line (CLEAR 0) (frees 1 1) (kind 2 2 ∷ []) ∷ line COLLECT (frees 0 0) (kind 2 2 ∷ []) ∷ [])
     -- K12
-    ∷ of4 (line FINISH (refused 10) [] ∷ line (START 64) (refused 3) [] ∷ [])
+    ∷ of4 (line FINISH (refusedBy 10) [] ∷ line (START 64) (refusedBy 3) [] ∷ [])
     ∷ []
 
 -- ---- the claim
 
-unfoldable pub same : List ℕ → List ℕ → Bool
-same [] [] = true
-same [] (y ∷ m) = false
-same (x ∷ l) [] = false
-same (x ∷ l) (y ∷ m) = eqb x y && same l m
+unfoldable pub sameNumbers : List ℕ → List ℕ → Bool
+sameNumbers [] [] = true
+sameNumbers [] (y ∷ m) = false
+sameNumbers (x ∷ l) [] = false
+sameNumbers (x ∷ l) (y ∷ m) = eqb x y && sameNumbers l m
 
 unfoldable pub holds : Heap → Fact → Bool
 holds h (kind c v) = eqb (kindOf h c) v
 holds h (count c v) = eqb (countOf h c) v
 holds h (flags c v) = eqb (flagsOf h c) v
-holds h (queue l) = same (entries h) (map suc l)
+holds h (queue l) = sameNumbers (entries h) (map suc l)
 
 unfoldable pub sameAnswer : Answer → Answer → Bool
 sameAnswer a b = every (eqb (a .refused) (b .refused) ∷ eqb (a .freed) (b .freed) ∷ eqb (a .queued) (b .queued) ∷ eqb (a .cell) (b .cell) ∷ [])

@@ -20,17 +20,17 @@ toMark m zero = false
 toMark m (suc c) = not (eqb (getD m c 0) 1)
 
 -- the step for the cell that a reference names, if that is not marked
-unfoldable pub named : (List ℕ → ℕ → List ℕ) → List ℕ → ℕ → List ℕ
-named step m r = cond (toMark m r) (step m (r - 1)) m
+unfoldable pub ifUnmarked : (List ℕ → ℕ → List ℕ) → List ℕ → ℕ → List ℕ
+ifUnmarked step m r = cond (toMark m r) (step m (r - 1)) m
 
 -- a cell is marked, and then its slots; with no depth left it is noted
 unfoldable pub markCell : ℕ → List ℕ → List ℕ → ℕ → List ℕ
 markCell zero slots m c = set m c 2
-markCell (suc depth) slots m c = each (named (markCell depth slots)) (set m c 1) (slotsOf slots c)
+markCell (suc depth) slots m c = each (ifUnmarked (markCell depth slots)) (set m c 1) (slotsOf slots c)
 
 -- a slot marks its cell
 unfoldable pub markSlot : ℕ → List ℕ → List ℕ → ℕ → List ℕ
-markSlot depth slots = named (markCell depth slots)
+markSlot depth slots = ifUnmarked (markCell depth slots)
 
 unfoldable pub markTable : ℕ → List ℕ → List ℕ → List ℕ → List ℕ
 markTable depth slots = each (markSlot depth slots)
@@ -52,11 +52,12 @@ firstOf n r t s = cond (ltb r n) r (cond (ltb s t) s n)
 unfoldable pub nextNoted : List ℕ → ℕ → ℕ
 nextNoted m from = firstOf (length m) (notedBetween m from (length m)) from (notedBetween m 0 from)
 
--- the scan, for k turns at most: marks the noted cell c, then the next, until there is none
-unfoldable pub scan : ℕ → List ℕ → List ℕ → ℕ → List ℕ
-scan zero slots m c = m
-scan (suc k) slots m c = cond (ltb c (length m)) (scan k slots (markCell 16 slots m c) (nextNoted (markCell 16 slots m c) c)) m
+-- the scan, for k turns at most: marks the noted cell c, nested as deep again, then the next, until there is none
+unfoldable pub scan : ℕ → ℕ → List ℕ → List ℕ → ℕ → List ℕ
+scan depth zero slots m c = m
+scan depth (suc k) slots m c =
+    cond (ltb c (length m)) (scan depth k slots (markCell depth slots m c) (nextNoted (markCell depth slots m c) c)) m
 
 -- all noted cells are served
-unfoldable pub scanAll : List ℕ → List ℕ → List ℕ
-scanAll slots m = scan (length m) slots m (nextNoted m 0)
+unfoldable pub scanAll : ℕ → List ℕ → List ℕ → List ℕ
+scanAll depth slots m = scan depth (length m) slots m (nextNoted m 0)

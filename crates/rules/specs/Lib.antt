@@ -11,5 +11,8 @@ pub mod Collect
 pub mod Calls
 pub mod Asked
 pub mod Numbers
-pub mod Claim
+pub mod Demand1
+pub mod Demand2
+pub mod Demand3
+pub mod Witness
 pub mod CounterBook

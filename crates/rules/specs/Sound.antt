@@ -56,3 +56,8 @@ pub record Sound (h : Heap) : Type 0 where
   pub rule5 : (running h ≡ 0) ⊎ ((1 ≤ running h) × (running h ≤ 64) × (1 ≤ queued h))
   -- "6. Every used cell's count equals the root entries that hold it, plus the slots that hold it, plus 1 if it is queued; and it is at least 1."
   pub rule6 : (c : ℕ) → Used h c → (countOf h c ≡ occ (suc c) (h .roots) + occ (suc c) (h .slots) + bump h c) × (1 ≤ countOf h c)
+
+-- a heap that every call but FRESH may go by: its tables fit, and it is sound
+pub record Ready (h : Heap) : Type 0 where
+  pub sized : Sized h
+  pub sound : Sound h

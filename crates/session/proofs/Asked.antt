@@ -5,7 +5,7 @@ use mathlib.Core.Path.{_≡_, refl}
 use mathlib.Core.Logic.{_⊎_, inl, inr}
 use mathlib.Core.Bool.{true, false}
 use lib.ListN.{List·getD-eq-default}
-use Rattle.rules.specs.Asked.{Asked, uses, unusedZero, calls, named, callOf}
+use Rattle.rules.specs.Asked.{Asked, uses, unusedZero, callsByNumber, callNumbered, callOf}
 use Rattle.rules.specs.Asked.Asked.{LINE}
 
 pub uses-three : (n : ℕ) → ((n ≡ 6) ⊎ (n ≡ 8) → ⊥) → ((n ≡ 2) ⊎ (n ≡ 7) → ⊥) → (n ≡ 3 → ⊥) → uses n ≡ 3
@@ -21,17 +21,17 @@ uses-three (suc (suc (suc (suc (suc (suc (suc zero))))))) f g h = absurd (g (inr
 uses-three (suc (suc (suc (suc (suc (suc (suc (suc zero)))))))) f g h = absurd (f (inr refl))
 uses-three (suc (suc (suc (suc (suc (suc (suc (suc (suc n))))))))) f g h = refl
 
-named-none : (n x y z : ℕ) → 9 ≤ n → named n x y z ≡ LINE
-unfolding named
-named-none n x y z h = List·getD-eq-default (calls x y z) LINE h
+none-numbered : (n x y z : ℕ) → 9 ≤ n → callNumbered n x y z ≡ LINE
+unfolding callNumbered
+none-numbered n x y z h = List·getD-eq-default (callsByNumber x y z) LINE h
 
 pub call-unused : (n x y z : ℕ) → unusedZero (uses n) x y z ≡ false → callOf n x y z ≡ LINE
 unfolding callOf
 call-unused n x y z h = rw h
 
-pub call-named : (n x y z : ℕ) (a : Asked) → unusedZero (uses n) x y z ≡ true → named n x y z ≡ a → callOf n x y z ≡ a
+pub call-numbered : (n x y z : ℕ) (a : Asked) → unusedZero (uses n) x y z ≡ true → callNumbered n x y z ≡ a → callOf n x y z ≡ a
 unfolding callOf
-call-named n x y z a h e = rw h e
+call-numbered n x y z a h e = rw h e
 
 -- `omega` splits on at most six numbers that n is not
 from-five : (n : ℕ) → (n ≡ 0 → ⊥) → (n ≡ 1 → ⊥) → (n ≡ 2 → ⊥) → (n ≡ 3 → ⊥) → (n ≡ 4 → ⊥) → 5 ≤ n
@@ -41,5 +41,5 @@ from-nine : (n : ℕ) → 5 ≤ n → (n ≡ 5 → ⊥) → (n ≡ 6 → ⊥) �
 from-nine n h a b c d = omega arith
 
 -- none of the calls' numbers, in the order of the `match`
-pub named-other : (n x y z : ℕ) → (n ≡ 1 → ⊥) → (n ≡ 2 → ⊥) → (n ≡ 3 → ⊥) → (n ≡ 4 → ⊥) → (n ≡ 5 → ⊥) → (n ≡ 6 → ⊥) → (n ≡ 7 → ⊥) → (n ≡ 8 → ⊥) → (n ≡ 0 → ⊥) → named n x y z ≡ LINE
-named-other n x y z a b c d e f g h i = named-none n x y z (from-nine n (from-five n i a b c d) e f g h)
+pub numbered-other : (n x y z : ℕ) → (n ≡ 1 → ⊥) → (n ≡ 2 → ⊥) → (n ≡ 3 → ⊥) → (n ≡ 4 → ⊥) → (n ≡ 5 → ⊥) → (n ≡ 6 → ⊥) → (n ≡ 7 → ⊥) → (n ≡ 8 → ⊥) → (n ≡ 0 → ⊥) → callNumbered n x y z ≡ LINE
+numbered-other n x y z a b c d e f g h i = none-numbered n x y z (from-nine n (from-five n i a b c d) e f g h)

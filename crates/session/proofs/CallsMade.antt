@@ -8,17 +8,17 @@ use Rattle.csv.specs.declared.scan.Record.{Record}
 use Rattle.rules.specs.Heap.{Heap, fresh, cells}
 use Rattle.rules.specs.Refusals.{Call}
 use Rattle.rules.specs.Refusals.Call.{FRESH}
-use Rattle.rules.specs.Calls.{Result, answers, refuse, done, step, Did, run}
-use Rattle.rules.specs.Claim.{Between}
-use Rattle.rules.specs.Claim.Between.{first, behind}
+use Rattle.rules.specs.Calls.{Result, answers, refuse, done, step, Between, Begins, run}
+use Rattle.rules.specs.Calls.Between.{first, behind}
 use Rattle.rules.specs.Asked.{Asked}
 use Rattle.rules.specs.Asked.Asked.{call, LINE}
 use Rattle.laws.specs.Calls.Admission.{step-fresh, fresh-ready}
-use Rattle.laws.specs.Demand.Whole.{demand-3, run-trace}
-use Rattle.session.specs.Session.{askedOf, numberOf, lineOf, obey, after, session, afterAll}
+use Rattle.laws.specs.Demand.Events.{run-trace}
+use Rattle.laws.specs.Demand.Third.{demand-3}
+use Rattle.session.specs.Session.{askedOf, numberOf, lineOf, obey, afterLine, session, afterAll}
 use Rattle.session.specs.Program.{atStart}
 use Rattle.session.specs.CallsMade.{inFront, callsOf, made, Lined, Keeps}
-use Rattle.session.specs.CallsMade.Lined.{none, called, refused}
+use Rattle.session.specs.CallsMade.Lined.{noLines, called, refusedLine}
 
 -- ---- the calls that lines ask for
 
@@ -28,12 +28,12 @@ lined-one : (h : Heap) (r : Record) (rs : List Record) (q : Asked) → askedOf r
     → Lined (r ∷ rs) (run h (inFront q (callsOf rs))) (lineOf (numberOf r) (obey h q .answer) ++ session (obey h q .heap) rs)
 unfolding run inFront obey refuse
 lined-one h r rs (call c) e l = called r (record { call = c; after = step h c .heap; answer = step h c .answer }) e l
-lined-one h r rs LINE e l = refused r e l
+lined-one h r rs LINE e l = refusedLine r e l
 
 all-lined : (h : Heap) (rs : List Record) → Lined rs (run h (callsOf rs)) (session h rs)
 unfolding run callsOf session
-all-lined h [] = none
-all-lined h (r ∷ rs) = lined-one h r rs (askedOf r) refl (all-lined (after h r) rs)
+all-lined h [] = noLines
+all-lined h (r ∷ rs) = lined-one h r rs (askedOf r) refl (all-lined (afterLine h r) rs)
 
 between-one : (h g : Heap) (q : Asked) (l : List Call) → Between (obey h q .heap) (run (obey h q .heap) l) g → Between h (run h (inFront q l)) g
 unfolding run inFront obey refuse
@@ -44,21 +44,26 @@ between-one h g LINE l b = b
 between-lines : (h : Heap) (p q : List Record) → Between h (run h (callsOf (p ++ q))) (afterAll h p)
 unfolding callsOf afterAll
 between-lines h [] q = first
-between-lines h (r ∷ p) q = between-one h (afterAll (after h r) p) (askedOf r) (callsOf (p ++ q)) (between-lines (after h r) p q)
+between-lines h (r ∷ p) q = between-one h (afterAll (afterLine h r) p) (askedOf r) (callsOf (p ++ q)) (between-lines (afterLine h r) p q)
 
 -- ---- from a fresh heap
 
-fresh-done : Did FRESH atStart atStart (answers 0 0 0 0)
+begins : Begins atStart
 unfolding done fresh
-fresh-done =
+begins =
     let e : step atStart FRESH ≡ done (fresh (cells atStart)) 0 = step-fresh atStart (fresh-ready 256 (omega arith) (omega arith) .sized) in
-    record { heap = sym (ap (λ (r : Result). r .heap) e); answered = sym (ap (λ (r : Result). r .answer) e) }
+    record {
+      stale = atStart;
+      answer = answers 0 0 0 0;
+      did = record { heap = sym (ap (λ (r : Result). r .heap) e); answered = sym (ap (λ (r : Result). r .answer) e) };
+      done = refl;
+    }
 
 pub program-keeps : (input : List ℕ) → Keeps input
 program-keeps input = record {
-  freshDone = fresh-done;
+  begins = begins;
   trace = run-trace atStart (callsOf (recordsOf input));
   lines = all-lined atStart (recordsOf input);
   between = λ p q e. subst⁻¹ (λ (l : List Record). Between atStart (run atStart (callsOf l)) (afterAll atStart p)) e (between-lines atStart p q);
-  claim = demand-3 atStart atStart (answers 0 0 0 0) fresh-done refl (made input) (run-trace atStart (callsOf (recordsOf input)));
+  claim = demand-3 atStart begins (made input) (run-trace atStart (callsOf (recordsOf input)));
 }

@@ -4,7 +4,7 @@ use native.Mathlib.Omega.{arith}
 use mathlib.Core.Path.{_≡_, refl, sym, _∙_, ap, subst, subst⁻¹}
 use mathlib.Core.List.{List, [], _∷_, _++_, append-assoc, append-nil}
 use lib.ListN.{length, take, length-append}
-use Rattle.csv.specs.Meaning.{meaning, start}
+use Rattle.csv.specs.Meaning.{meaning, scanStart}
 use Rattle.csv.specs.Feeding.{given, Fed}
 use Rattle.csv.specs.Written.{Wrote}
 use Rattle.csv.specs.declared.scan.Record.{Record}
@@ -14,8 +14,8 @@ use Rattle.csv.proofs.Start.{from-start}
 use Rattle.csv.proofs.Written.{wrote-more}
 use Rattle.rules.specs.Heap.{Heap}
 use Rattle.session.specs.declared.pieces.Progress.{Progress}
-use Rattle.session.specs.Session.{lineFor, after, session, afterAll}
-use Rattle.session.specs.Pieces.{Took, Advanced, Closed, Delivered, joined, AnyPieces}
+use Rattle.session.specs.Session.{lineFor, afterLine, session, afterAll}
+use Rattle.session.specs.Pieces.{Took, Progressed, InputEnded, Delivered, joined, AnyPieces}
 use Rattle.session.specs.Pieces.Delivered.{ended, piece}
 use Rattle.session.proofs.Session.{session-append, after-append}
 
@@ -44,14 +44,14 @@ took-more s r t p q h k m a b = record {
   heap = b .heap ∙ ap (λ (x : Heap). afterAll x (b .lines)) (a .heap) ∙ sym (after-append h (a .lines) (b .lines));
 }
 
-pub advanced-none : (s : Scan) (out : List ℕ) (at : ℕ) (h : Heap) → Advanced s [] out at h h out (record { scan = s; at = at })
+pub progressed-none : (s : Scan) (out : List ℕ) (at : ℕ) (h : Heap) → Progressed s [] out at h h out (record { scan = s; at = at })
 unfolding session took-none
-advanced-none s out at h = record { took = took-none s h; wrote = wrote-nothing out at; room = omega arith }
+progressed-none s out at h = record { took = took-none s h; wrote = wrote-nothing out at; room = omega arith }
 
-pub advanced-more : (s : Scan) (p q out mid end : List ℕ) (at : ℕ) (h k m : Heap) (r t : Progress)
-    → Advanced s p out at h k mid r → Advanced (r .scan) q mid (r .at) k m end t → Advanced s (p ++ q) out at h m end t
+pub progressed-more : (s : Scan) (p q out mid end : List ℕ) (at : ℕ) (h k m : Heap) (r t : Progress)
+    → Progressed s p out at h k mid r → Progressed (r .scan) q mid (r .at) k m end t → Progressed s (p ++ q) out at h m end t
 unfolding took-more
-advanced-more s p q out mid end at h k m r t a b =
+progressed-more s p q out mid end at h k m r t a b =
     let first : List Record = a .took .lines in
     let then : List Record = b .took .lines in
     record {
@@ -64,38 +64,38 @@ advanced-more s p q out mid end at h k m r t a b =
     }
 
 -- a byte that ends no line
-pub advanced-held : (s t : Scan) (b : ℕ) (out : List ℕ) (at : ℕ) (h : Heap) → Fed s b (More t) → Advanced s (b ∷ []) out at h h out (record { scan = t; at = at })
+pub progressed-held : (s t : Scan) (b : ℕ) (out : List ℕ) (at : ℕ) (h : Heap) → Fed s b (More t) → Progressed s (b ∷ []) out at h h out (record { scan = t; at = at })
 unfolding given session afterAll
-advanced-held s t b out at h f = record {
-  took = record { lines = []; read = λ rest. f .same rest; heap = refl };
+progressed-held s t b out at h f = record {
+  took = record { lines = []; read = λ rest. f .says rest; heap = refl };
   wrote = wrote-nothing out at;
   room = omega arith;
 }
 
 -- a byte that ends a line, which is answered
-pub advanced-line : (s : Scan) (b : ℕ) (l : Record) (out end : List ℕ) (at r : ℕ) (h k : Heap) → Fed s b (Line l) → k ≡ after h l → Wrote out at (lineFor h l) end r → r ≤ at + 31
-    → Advanced s (b ∷ []) out at h k end (record { scan = start; at = r })
+pub progressed-line : (s : Scan) (b : ℕ) (l : Record) (out end : List ℕ) (at r : ℕ) (h k : Heap) → Fed s b (Line l) → k ≡ afterLine h l → Wrote out at (lineFor h l) end r → r ≤ at + 31
+    → Progressed s (b ∷ []) out at h k end (record { scan = scanStart; at = r })
 unfolding given afterAll
-advanced-line s b l out end at r h k f e w m = record {
-  took = record { lines = l ∷ []; read = λ rest. f .same rest; heap = e };
+progressed-line s b l out end at r h k f e w m = record {
+  took = record { lines = l ∷ []; read = λ rest. f .says rest; heap = e };
   wrote = wrote-line h l out end at r w;
   room = omega arith;
 }
 
 -- ---- the input ended
 
-pub closed-nothing : (s : Scan) (out : List ℕ) (h : Heap) → meaning s [] ≡ [] → Closed s out h h out 0
+pub ended-nothing : (s : Scan) (out : List ℕ) (h : Heap) → meaning s [] ≡ [] → InputEnded s out h h out 0
 unfolding session afterAll
-closed-nothing s out h e = record {
+ended-nothing s out h e = record {
   heap = sym (ap (afterAll h) e);
   wrote = subst⁻¹ (λ (l : List Record). Wrote out 0 (session h l) out 0) e (wrote-nothing out 0);
   room = omega arith;
 }
 
-pub closed-line : (s : Scan) (l : Record) (out end : List ℕ) (r : ℕ) (h k : Heap) → meaning s [] ≡ l ∷ [] → k ≡ after h l → Wrote out 0 (lineFor h l) end r → r ≤ 31 → 31 ≤ length out
-    → Closed s out h k end r
+pub ended-line : (s : Scan) (l : Record) (out end : List ℕ) (r : ℕ) (h k : Heap) → meaning s [] ≡ l ∷ [] → k ≡ afterLine h l → Wrote out 0 (lineFor h l) end r → r ≤ 31 → 31 ≤ length out
+    → InputEnded s out h k end r
 unfolding afterAll
-closed-line s l out end r h k e g w m n = record {
+ended-line s l out end r h k e g w m n = record {
   heap = g ∙ sym (ap (afterAll h) e);
   wrote = subst⁻¹ (λ (x : List Record). Wrote out 0 (session h x) end r) e (wrote-line h l out end 0 r w);
   room = omega (arith, w .size);
@@ -104,15 +104,15 @@ closed-line s l out end r h k e g w m n = record {
 -- ---- the whole input
 
 -- what all pieces gave, from any scan
-record Given (s : Scan) (h : Heap) (input w : List ℕ) (m : Heap) : Type 0 where
+record FromScan (s : Scan) (h : Heap) (input w : List ℕ) (m : Heap) : Type 0 where
   written : w ≡ session h (meaning s input)
   heap : m ≡ afterAll h (meaning s input)
 
-delivered-from : {s : Scan} {h m : Heap} {ps : List (List ℕ)} {w : List ℕ} → Delivered s h ps w m → Given s h (joined ps) w m
+delivered-from : {s : Scan} {h m : Heap} {ps : List (List ℕ)} {w : List ℕ} → Delivered s h ps w m → FromScan s h (joined ps) w m
 unfolding joined
 delivered-from (ended before after r c) = record { written = c .wrote .bytes; heap = c .heap }
 delivered-from (piece {s} {h} {k} {m} p before after r {ps} {w} a d) =
-    let g : Given (r .scan) k (joined ps) w m = delivered-from d in
+    let g : FromScan (r .scan) k (joined ps) w m = delivered-from d in
     let lines : List Record = a .took .lines in
     let rest : List Record = meaning (r .scan) (joined ps) in
     record {
@@ -129,7 +129,7 @@ delivered-from (piece {s} {h} {k} {m} p before after r {ps} {w} a d) =
 
 pub any-pieces : AnyPieces
 any-pieces h m ps w d =
-    let g : Given start h (joined ps) w m = delivered-from d in
+    let g : FromScan scanStart h (joined ps) w m = delivered-from d in
     record {
       written = g .written ∙ ap (session h) (from-start (joined ps));
       heap = g .heap ∙ ap (afterAll h) (from-start (joined ps));

@@ -6,9 +6,8 @@ use mathlib.Core.List.{List, [], _∷_, _++_}
 use Rattle.csv.specs.Lines.{recordsOf}
 use Rattle.csv.specs.declared.scan.Record.{Record}
 use Rattle.rules.specs.Refusals.{Call}
-use Rattle.rules.specs.Refusals.Call.{FRESH}
-use Rattle.rules.specs.Calls.{answers, Did, Event, Trace, run}
-use Rattle.rules.specs.Claim.{Between, Claim}
+use Rattle.rules.specs.Calls.{answers, Event, Trace, Between, Begins, run}
+use Rattle.rules.specs.Demand3.{Claim}
 use Rattle.rules.specs.Asked.{Asked}
 use Rattle.rules.specs.Asked.Asked.{call, LINE}
 use Rattle.session.specs.Session.{askedOf, numberOf, lineOf, session, afterAll}
@@ -30,15 +29,15 @@ made input = run atStart (callsOf (recordsOf input))
 
 -- lines, the calls that were made for them, and the output: a line that asks for a call has its answer, in order; any other is refused LINE, and nothing is called
 pub data Lined : List Record → List Event → List ℕ → Type 0 where
-  none : Lined [] [] []
+  noLines : Lined [] [] []
   called : {rs : List Record} {es : List Event} {w : List ℕ} (r : Record) (e : Event) → askedOf r ≡ call (e .call) → Lined rs es w
       → Lined (r ∷ rs) (e ∷ es) (lineOf (numberOf r) (e .answer) ++ w)
-  refused : {rs : List Record} {es : List Event} {w : List ℕ} (r : Record) → askedOf r ≡ LINE → Lined rs es w
+  refusedLine : {rs : List Record} {es : List Event} {w : List ℕ} (r : Record) → askedOf r ≡ LINE → Lined rs es w
       → Lined (r ∷ rs) es (lineOf (numberOf r) (answers 11 0 0 0) ++ w)
 
 -- The claim that ties the program to demand 3: what it does for an input is a list of calls that starts from a FRESH done, so demand 3's claim holds of it.
 pub record Keeps (input : List ℕ) : Type 0 where
-  pub freshDone : Did FRESH atStart atStart (answers 0 0 0 0)
+  pub begins : Begins atStart
   pub trace : Trace atStart (made input)
   pub lines : Lined (recordsOf input) (made input) (session atStart (recordsOf input))
   -- the tables after any of its lines are tables between those calls

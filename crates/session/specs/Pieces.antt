@@ -3,7 +3,7 @@ use Prim.Native.Nat.{ℕ, _+_, _*_, _≤_}
 use mathlib.Core.Path.{_≡_}
 use mathlib.Core.List.{List, [], _∷_, _++_}
 use lib.ListN.{length, take}
-use Rattle.csv.specs.Meaning.{meaning, start}
+use Rattle.csv.specs.Meaning.{meaning, scanStart}
 use Rattle.csv.specs.Lines.{recordsOf}
 use Rattle.csv.specs.Written.{Wrote}
 use Rattle.csv.specs.declared.scan.Record.{Record}
@@ -20,22 +20,22 @@ pub record Took (s : Scan) (h : Heap) (input : List ℕ) (t : Scan) (k : Heap) :
   pub heap : k ≡ afterAll h lines
 
 -- and the answers to those lines were written from `at` on
-pub record Advanced (s : Scan) (input before : List ℕ) (at : ℕ) (h k : Heap) (after : List ℕ) (r : Progress) : Type 0 where
+pub record Progressed (s : Scan) (input before : List ℕ) (at : ℕ) (h k : Heap) (after : List ℕ) (r : Progress) : Type 0 where
   pub took : Took s h input (r .scan) k
   pub wrote : Wrote before at (session h (took .lines)) after (r .at)
   pub room : r .at ≤ at + 31 * length input
 
 -- the input ended: what the scan still says was obeyed, and its answer was written at the front
-pub record Closed (s : Scan) (before : List ℕ) (h k : Heap) (after : List ℕ) (r : ℕ) : Type 0 where
+pub record InputEnded (s : Scan) (before : List ℕ) (h k : Heap) (after : List ℕ) (r : ℕ) : Type 0 where
   pub heap : k ≡ afterAll h (meaning s [])
   pub wrote : Wrote before 0 (session h (meaning s [])) after r
   pub room : r ≤ length after
 
 -- The input came in pieces, each taken where the one before stopped; w is all that was written for them and at the end, m the tables that were left.
 pub data Delivered : Scan → Heap → List (List ℕ) → List ℕ → Heap → Type 0 where
-  ended : {s : Scan} {h k : Heap} (before after : List ℕ) (r : ℕ) → Closed s before h k after r → Delivered s h [] (take r after) k
+  ended : {s : Scan} {h k : Heap} (before after : List ℕ) (r : ℕ) → InputEnded s before h k after r → Delivered s h [] (take r after) k
   piece : {s : Scan} {h k m : Heap} (p before after : List ℕ) (r : Progress) {ps : List (List ℕ)} {w : List ℕ}
-      → Advanced s p before 0 h k after r → Delivered (r .scan) k ps w m → Delivered s h (p ∷ ps) (take (r .at) after ++ w) m
+      → Progressed s p before 0 h k after r → Delivered (r .scan) k ps w m → Delivered s h (p ∷ ps) (take (r .at) after ++ w) m
 
 unfoldable pub joined : List (List ℕ) → List ℕ
 joined [] = []
@@ -47,4 +47,4 @@ pub record Undivided (h : Heap) (input w : List ℕ) (m : Heap) : Type 0 where
   pub heap : m ≡ afterAll h (recordsOf input)
 
 abbrev pub AnyPieces : Type 0
-AnyPieces = (h m : Heap) (ps : List (List ℕ)) (w : List ℕ) → Delivered start h ps w m → Undivided h (joined ps) w m
+AnyPieces = (h m : Heap) (ps : List (List ℕ)) (w : List ℕ) → Delivered scanStart h ps w m → Undivided h (joined ps) w m

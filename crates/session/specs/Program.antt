@@ -4,7 +4,7 @@ use Prim.Native.Nat.{ℕ}
 use mathlib.Core.Path.{_≡_}
 use mathlib.Core.List.{List, [], _∷_, _++_}
 use Rattle.csv.specs.Lines.{recordsOf}
-use Rattle.csv.specs.Meaning.{start}
+use Rattle.csv.specs.Meaning.{scanStart}
 use Rattle.rules.specs.Heap.{Heap, fresh}
 use Rattle.session.specs.Session.{session}
 use Rattle.session.specs.Pieces.{Delivered, joined}
@@ -23,4 +23,4 @@ output input = header ++ session atStart (recordsOf input)
 
 -- the claim about pieces, of the program: what it writes, however its input was cut
 abbrev pub WritesOutput : Type 0
-WritesOutput = (ps : List (List ℕ)) (w : List ℕ) (m : Heap) → Delivered start atStart ps w m → header ++ w ≡ output (joined ps)
+WritesOutput = (ps : List (List ℕ)) (w : List ℕ) (m : Heap) → Delivered scanStart atStart ps w m → header ++ w ≡ output (joined ps)

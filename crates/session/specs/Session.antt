@@ -39,8 +39,8 @@ abbrev pub lineOf : ℕ → Answer → List ℕ
 lineOf n a = rendered (cond (eqb (a .refused) 11) 0 n) (a .refused) (a .freed) (a .queued) (a .cell)
 
 -- the heap after a line, and the line's answer
-abbrev pub after : Heap → Record → Heap
-after h r = obey h (askedOf r) .heap
+abbrev pub afterLine : Heap → Record → Heap
+afterLine h r = obey h (askedOf r) .heap
 
 abbrev pub lineFor : Heap → Record → List ℕ
 lineFor h r = lineOf (numberOf r) (obey h (askedOf r) .answer)
@@ -48,9 +48,9 @@ lineFor h r = lineOf (numberOf r) (obey h (askedOf r) .answer)
 -- all the output lines, one for each line of the input, each on the heap that the one before left
 unfoldable pub session : Heap → List Record → List ℕ
 session h [] = []
-session h (r ∷ rs) = lineFor h r ++ session (after h r) rs
+session h (r ∷ rs) = lineFor h r ++ session (afterLine h r) rs
 
 -- the heap after all lines
 unfoldable pub afterAll : Heap → List Record → Heap
 afterAll h [] = h
-afterAll h (r ∷ rs) = afterAll (after h r) rs
+afterAll h (r ∷ rs) = afterAll (afterLine h r) rs

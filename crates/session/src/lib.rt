@@ -5,6 +5,5 @@ mod line;
 mod pieces;
 
 pub use first::header;
-pub use pieces::Progress;
 pub use pieces::close;
 pub use pieces::take_piece;

@@ -6,7 +6,7 @@ ghost use lib.Dec.{eqb};
 ghost use lib.ListN.{length};
 ghost use Rattle.csv.specs.Written.{Wrote};
 ghost use Rattle.rules.specs.Heap.{tables};
-ghost use Rattle.session.specs.Session.{lineOf, lineFor, after};
+ghost use Rattle.session.specs.Session.{lineOf, lineFor, afterLine};
 use crate::ask::LINE;
 use crate::ask::dispatch;
 use calls_admission::refuse;
@@ -56,7 +56,7 @@ pub fn answer(
 ) -> usize
     requires { ⌜ at + 31 ≤ length (now out) ⌝ }
     ensures { λ r. ⌜ tables (now (kind .exit)) (now (flags .exit)) (now (count .exit)) (now (slots .exit)) (now (roots .exit)) (now (queue .exit)) (now (control .exit))
-        ≡ after (tables (now (kind .entry)) (now (flags .entry)) (now (count .entry)) (now (slots .entry)) (now (roots .entry)) (now (queue .entry)) (now (control .entry))) said ⌝ }
+        ≡ afterLine (tables (now (kind .entry)) (now (flags .entry)) (now (count .entry)) (now (slots .entry)) (now (roots .entry)) (now (queue .entry)) (now (control .entry))) said ⌝ }
     ensures { λ r. ⌜ Wrote (now (out .entry)) at
         (lineFor (tables (now (kind .entry)) (now (flags .entry)) (now (count .entry)) (now (slots .entry)) (now (roots .entry)) (now (queue .entry)) (now (control .entry))) said)
         (now (out .exit)) r ⌝ }

@@ -4,15 +4,15 @@ ghost use mathlib.Core.List.{[], _∷_};
 ghost use Prim.Native.Nat.{_+_, _*_, _≤_};
 ghost use lib.ListN.{length};
 ghost use Rattle.rules.specs.Heap.{tables};
-ghost use Rattle.csv.specs.Meaning.{start as begin};
-ghost use Rattle.session.specs.Pieces.{Advanced, Closed};
+ghost use Rattle.csv.specs.Meaning.{scanStart};
+ghost use Rattle.session.specs.Pieces.{Progressed, InputEnded};
 use crate::line::answer;
 use csv::scan::Last;
 use csv::scan::Scan;
 use csv::scan::Step;
 use csv::scan::feed;
-use csv::scan::finish;
-use csv::scan::start;
+use csv::scan::scan_end;
+use csv::scan::scan_start;
 
 // The scan of the unfinished line, and the place after what is written.
 pub struct Progress {
@@ -22,9 +22,10 @@ pub struct Progress {
 
 // A line has ended and is answered: the next one begins.
 fn next_line(at: usize) -> Progress
-    ensures { λ r. ⌜ r ≡ record { scan = begin; at = at } ⌝ }
+    ensures { λ r. ⌜ r ≡ record { scan = scanStart; at = at } ⌝ }
 {
-    Progress { scan: start(), at }
+    let scan = scan_start();
+    Progress { scan, at }
 }
 
 // One byte of the input; if it ends a line, that is answered at `at`.
@@ -42,7 +43,7 @@ fn take_byte(
     at: usize,
 ) -> Progress
     requires { ⌜ at + 31 ≤ length (now out) ⌝ }
-    ensures { λ r. ⌜ Advanced scan (byte ∷ []) (now (out .entry)) at
+    ensures { λ r. ⌜ Progressed scan (byte ∷ []) (now (out .entry)) at
         (tables (now (kind .entry)) (now (flags .entry)) (now (count .entry)) (now (slots .entry)) (now (roots .entry)) (now (queue .entry)) (now (control .entry)))
         (tables (now (kind .exit)) (now (flags .exit)) (now (count .exit)) (now (slots .exit)) (now (roots .exit)) (now (queue .exit)) (now (control .exit)))
         (now (out .exit)) r ⌝ }
@@ -79,7 +80,7 @@ pub fn take_piece(
     out: &mut [u8],
 ) -> Progress
     requires { ⌜ 31 * length (now piece) ≤ length (now out) ⌝ }
-    ensures { λ r. ⌜ Advanced scan (now (piece .entry)) (now (out .entry)) 0
+    ensures { λ r. ⌜ Progressed scan (now (piece .entry)) (now (out .entry)) 0
         (tables (now (kind .entry)) (now (flags .entry)) (now (count .entry)) (now (slots .entry)) (now (roots .entry)) (now (queue .entry)) (now (control .entry)))
         (tables (now (kind .exit)) (now (flags .exit)) (now (count .exit)) (now (slots .exit)) (now (roots .exit)) (now (queue .exit)) (now (control .exit)))
         (now (out .exit)) r ⌝ }
@@ -120,12 +121,12 @@ pub fn close(
     out: &mut [u8],
 ) -> usize
     requires { ⌜ 31 ≤ length (now out) ⌝ }
-    ensures { λ r. ⌜ Closed scan (now (out .entry))
+    ensures { λ r. ⌜ InputEnded scan (now (out .entry))
         (tables (now (kind .entry)) (now (flags .entry)) (now (count .entry)) (now (slots .entry)) (now (roots .entry)) (now (queue .entry)) (now (control .entry)))
         (tables (now (kind .exit)) (now (flags .exit)) (now (count .exit)) (now (slots .exit)) (now (roots .exit)) (now (queue .exit)) (now (control .exit)))
         (now (out .exit)) r ⌝ }
 {
-    match finish(scan) {
+    match scan_end(scan) {
         Last::Nothing => 0,
         Last::Final(said) => answer(
             kind,

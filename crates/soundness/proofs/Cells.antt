@@ -13,8 +13,8 @@ use borrow.Author.Tests.{eqb-true, eq-eqb, ne-eqb, le-leb, leb-true, lt-leb}
 use Rattle.rules.specs.Lists.{all}
 use Rattle.rules.specs.Lists as Lists
 use Rattle.rules.specs.Check.{cellOk}
-use Rattle.laws.specs.Lists.Tests.{same, fails, all-all, all-at}
-use Rattle.soundness.specs.Tests.{shapeOk, countOk}
+use Rattle.laws.specs.Lists.Tests.{tests-agree, fails, all-all, all-at}
+use Rattle.soundness.specs.Tests.{shapeOk, countMatches}
 
 -- ---- kind and flags
 
@@ -35,7 +35,7 @@ kind-flags (suc zero) (suc (suc (suc zero))) = refl
 kind-flags (suc zero) (suc (suc (suc (suc f)))) = flags-high (suc (suc (suc (suc f)))) (omega arith)
 kind-flags (suc (suc k)) f =
     let e : leb (suc (suc k)) 3 ≡ leb k 1 =
-    same _ _ (λ t. le-leb k 1 (omega (arith, leb-true (suc (suc k)) 3 t))) (λ t. le-leb (suc (suc k)) 3 (omega (arith, leb-true k 1 t))) in
+    tests-agree _ _ (λ t. le-leb k 1 (omega (arith, leb-true (suc (suc k)) 3 t))) (λ t. le-leb (suc (suc k)) 3 (omega (arith, leb-true k 1 t))) in
     rw (ne-eqb (suc (suc k)) 1 (λ q. omega arith), e) (go (eqb f 0) (leb k 1))
   where
     go : (b l : Bool) → ((b && l) || false) ≡ (l && (b && true))
@@ -56,8 +56,8 @@ shape-code k f q =
 
 -- ---- the count
 
-pub count-code : (k n t : ℕ) → (eqb n t && Bool·beq (eqb k 0) (eqb n 0)) ≡ countOk k n t
-unfolding countOk
+pub count-code : (k n t : ℕ) → (eqb n t && Bool·beq (eqb k 0) (eqb n 0)) ≡ countMatches k n t
+unfolding countMatches
 count-code k n t = ap (λ (b : Bool). eqb n t && b) (go (eqb k 0) (eqb n 0) ∙ ap (cond (eqb k 0) (eqb n 0)) (some n))
   where
     go : (b c : Bool) → Bool·beq b c ≡ cond b c (not c)
@@ -96,9 +96,9 @@ zero-all l z = all-all (eqb 0) l (λ i m. eq-eqb 0 (getD l i 0) (sym (z i m)))
 pub four-used : (l : List ℕ) → length l ≡ 4 → getD l 0 0 ≢ 0 → all (eqb 0) l ≡ false
 four-used l size n = fails _ (λ t. n (zero-at l t 0 (omega arith)))
 
-pub four : (l : List ℕ) → length l ≡ 4 → getD l 0 0 ≡ 0 → eqb (bitOr (bitOr (getD l 1 0) (getD l 2 0)) (getD l 3 0)) 0 ≡ all (eqb 0) l
-four l size first =
-    same _ _
+pub four-empty : (l : List ℕ) → length l ≡ 4 → getD l 0 0 ≡ 0 → eqb (bitOr (bitOr (getD l 1 0) (getD l 2 0)) (getD l 3 0)) 0 ≡ all (eqb 0) l
+four-empty l size first =
+    tests-agree _ _
     (λ t. let rest = or-none-3 _ _ _ (eqb-true _ 0 t) in zero-all l (λ i m. each rest i (omega arith)))
     (λ t. rw (zero-at l t 1 (omega arith), zero-at l t 2 (omega arith), zero-at l t 3 (omega arith)) refl)
   where
@@ -113,7 +113,7 @@ pub eight : (l : List ℕ) → length l ≡ 8
     → eqb (bitOr (bitOr (bitOr (bitOr (getD l 7 0) (getD l 6 0)) (getD l 5 0)) (getD l 4 0)) (bitOr (bitOr (bitOr (getD l 3 0) (getD l 2 0)) (getD l 1 0)) (getD l 0 0))) 0
     ≡ all (eqb 0) l
 eight l size =
-    same _ _
+    tests-agree _ _
     (λ t. let e = or-none _ _ (eqb-true _ 0 t) in
     let last = or-none-4 _ _ _ _ (e .0) in
     let first = or-none-4 _ _ _ _ (e .1) in

@@ -11,7 +11,7 @@ use mathlib.Core.List.{List}
 use borrow.Author.Tests.{ne-eqb}
 use Rattle.rules.specs.Lists.{all, below}
 use Rattle.rules.specs.Lists as Lists
-use Rattle.laws.specs.Lists.Tests.{same, all-all, all-at, below-all, below-at}
+use Rattle.laws.specs.Lists.Tests.{tests-agree, all-all, all-at, below-all, below-at}
 
 -- how many numbers below n fail
 unfoldable pub misses : (ℕ → Bool) → ℕ → ℕ
@@ -33,9 +33,9 @@ pub record Misses (p : ℕ → Bool) (n wrong i : ℕ) : Type 0 where
   pub few : wrong ≤ i
   pub is : wrong ≡ misses p i
 
-pub begin : (p : ℕ → Bool) (n : ℕ) → Misses p n 0 0
+pub misses-begin : (p : ℕ → Bool) (n : ℕ) → Misses p n 0 0
 unfolding misses
-begin p n = record { bound = omega arith; few = omega arith; is = refl }
+misses-begin p n = record { bound = omega arith; few = omega arith; is = refl }
 
 module _ {p : ℕ → Bool} {n wrong i : ℕ} (v : Misses p n wrong i) where
   pub pass : (next : ℕ) → i < n → p i ≡ true → next ≡ wrong → Misses p n next (i + 1)
@@ -46,11 +46,11 @@ module _ {p : ℕ → Bool} {n wrong i : ℕ} (v : Misses p n wrong i) where
   unfolding misses
   miss next m e q = record { bound = omega arith; few = omega (arith, v .few); is = q ∙ add-one wrong ∙ ap suc (v .is) ∙ sym (rw (add-one, e) refl) }
 
-  pub done : n ≤ i → eqb wrong 0 ≡ below n p
-  done m =
+  pub misses-done : n ≤ i → eqb wrong 0 ≡ below n p
+  misses-done m =
       let e : i ≡ n = omega (arith, v .bound) in
       ap (λ (w : ℕ). eqb w 0) (v .is) ∙ ap (λ (k : ℕ). eqb (misses p k) 0) e ∙ misses-none p n
 
 -- the entries of a list, one by one
 pub entries-all : (p : ℕ → Bool) (l : List ℕ) → below (length l) (λ i. p (getD l i 0)) ≡ all p l
-entries-all p l = same _ _ (λ t. all-all p l (below-at _ _ t)) (λ t. below-all _ _ (all-at p l t))
+entries-all p l = tests-agree _ _ (λ t. all-all p l (below-at _ _ t)) (λ t. below-all _ _ (all-at p l t))

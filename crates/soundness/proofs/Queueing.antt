@@ -35,8 +35,8 @@ pub record Queueing (whole entries tally : List ℕ) (i : ℕ) : Type 0 where
   pub named : (j : ℕ) → j < i → names (counters whole) (getD entries j 0) ≡ true
   pub once : (x : ℕ) → occ x (take i entries) ≤ 1
 
-pub begin : (whole entries : List ℕ) → Queueing whole entries whole 0
-begin whole entries = record { bound = omega arith; is = tallied-none whole; named = below-none _; once = λ x. omega (arith, occ-nil x) }
+pub queueing-begin : (whole entries : List ℕ) → Queueing whole entries whole 0
+queueing-begin whole entries = record { bound = omega arith; is = tallied-none whole; named = below-none _; once = λ x. omega (arith, occ-nil x) }
 
 -- an entry that names no cell
 pub unnamed : (n : ℕ) (entries : List ℕ) (i : ℕ) → i < length entries → ((1 ≤ getD entries i 0) × (getD entries i 0 ≤ n) → ⊥)
@@ -48,7 +48,7 @@ module _ {whole entries tally : List ℕ} {i : ℕ} (clear : (x : ℕ) → getD 
     (some : 1 ≤ getD entries i 0) (low : getD entries i 0 < length tally) where
   -- how often the entry at i was met before
   met : getD tally (getD entries i 0) 0 ≡ occ (getD entries i 0) (take i entries)
-  met = omega (arith, v .is .at (getD entries i 0) some (omega (arith, v .is .same)), clear (getD entries i 0))
+  met = omega (arith, v .is .at (getD entries i 0) some (omega (arith, v .is .size)), clear (getD entries i 0))
 
   pub twice : getD tally (getD entries i 0) 0 ≢ 0 → (distinct entries && all (names (counters whole)) entries) ≡ false
   twice n =
@@ -62,24 +62,24 @@ module _ {whole entries tally : List ℕ} {i : ℕ} (clear : (x : ℕ) → getD 
         occ-here (getD entries i 0) (drop (i + 1) entries),
       ))
 
-  pub turn : (next : List ℕ) → getD tally (getD entries i 0) 0 ≡ 0 → next ≡ set tally (getD entries i 0) 1 → Queueing whole entries next (i + 1)
-  turn next n f =
+  pub queueing-turn : (next : List ℕ) → getD tally (getD entries i 0) 0 ≡ 0 → next ≡ set tally (getD entries i 0) 1 → Queueing whole entries next (i + 1)
+  queueing-turn next n f =
       let y = getD entries i 0 in
       let front : take (i + 1) entries ≡ take i entries ++ (y ∷ []) = rw add-one (take-suc entries i 0 m) in
       let one : set tally y (getD tally y 0 + 1) ≡ next = ap (λ (k : ℕ). set tally y (k + 1)) n ∙ sym f in
       record {
         bound = omega arith;
         is = rw front (tallied-append _ _ (v .is) (rw one at (tallied-in tally y low)));
-        named = below-more _ _ (v .named) (names-ok (counters whole) y some (omega (arith, v .is .same)));
+        named = below-more _ _ (v .named) (names-ok (counters whole) y some (omega (arith, v .is .size)));
         once = λ x.
             by-cases (ℕ-discrete x y)
             (λ q. omega (arith, ap (occ x) front, occ-append x (take i entries) (y ∷ []), occ-one x y q, ap (λ (z : ℕ). occ z (take i entries)) q, met))
             (λ q. omega (arith, ap (occ x) front, occ-append x (take i entries) (y ∷ []), occ-other x y q, v .once x));
       }
 
-pub done : {whole entries tally : List ℕ} {i : ℕ} → Queueing whole entries tally i → length entries ≤ i
+pub queueing-done : {whole entries tally : List ℕ} {i : ℕ} → Queueing whole entries tally i → length entries ≤ i
     → ((distinct entries && all (names (counters whole)) entries) ≡ true) × Tallied whole entries tally
-done {whole} {entries} {tally} {i} v h = (
+queueing-done {whole} {entries} {tally} {i} v h = (
   and-join
       (once-distinct entries (λ x. omega (arith, v .once x, ap (occ x) (take-all i entries h))))
       (all-all (names (counters whole)) entries (λ j m. v .named j (omega arith))),

@@ -13,9 +13,9 @@ use borrow.Author.Tests.{eq-eqb, ne-eqb, eqb-true}
 use borrow.Author.Count.{below-none, below-more}
 use Rattle.rules.specs.Lists.{all, below}
 use Rattle.rules.specs.Heap.{slotsOf}
-use Rattle.laws.specs.Lists.Tests.{same as same-test, clash, below-all, below-at}
+use Rattle.laws.specs.Lists.Tests.{tests-agree, clash, below-all, below-at}
 use Rattle.laws.specs.Lists.Tables.{slots-length}
-use Rattle.laws.specs.Sound.Tally.{counters, Tallied, Room, dangling, dangling-length, tallied-none, tallied-zeros, tallied-part, room-after, less-room}
+use Rattle.laws.specs.Sound.Tally.{counters, Tallied, TallyRoom, dangling, dangling-length, tallied-none, tallied-zeros, tallied-part, room-after, less-room}
 use Rattle.soundness.specs.Tests.{slotsOk, slotsAt, Tallies, CellTallied}
 
 -- slotsOk of an object, and of another cell
@@ -73,18 +73,18 @@ part-length slots c n size m = ap length (part slots c) ∙ slots-length slots c
 -- after c cells: if nothing is wrong so far, their slots are as they may be and tallied, and the other way round
 pub record Slotting (whole kind slots tally : List ℕ) (wrong c : ℕ) : Type 0 where
   pub bound : c ≤ length kind
-  pub same : length tally ≡ length whole
+  pub size : length tally ≡ length whole
   pub few : wrong ≤ 8 * c
-  pub room : Room tally (8 * (length kind - c))
+  pub room : TallyRoom tally (8 * (length kind - c))
   pub is : wrong ≡ 0 → Tallied whole (take (8 * c) slots) tally
   pub passed : wrong ≡ 0 → (d : ℕ) → d < c → slotsAt (counters whole) kind slots d ≡ true
   pub right : ((d : ℕ) → d < c → slotsAt (counters whole) kind slots d ≡ true) → wrong ≡ 0
 
-pub begin : (whole kind slots : List ℕ) → length slots ≡ 8 * length kind → Room whole (length slots) → Slotting whole kind slots whole 0 0
-begin whole kind slots size r =
+pub slots-begin : (whole kind slots : List ℕ) → length slots ≡ 8 * length kind → TallyRoom whole (length slots) → Slotting whole kind slots whole 0 0
+slots-begin whole kind slots size r =
     record {
       bound = omega arith;
-      same = refl;
+      size = refl;
       few = omega arith;
       room = less-room (length slots) _ (omega arith) r;
       is = λ e. tallied-none whole;
@@ -93,19 +93,19 @@ begin whole kind slots size r =
     }
 
 module _ {whole kind slots tally : List ℕ} {wrong c : ℕ} (size : length slots ≡ 8 * length kind) (v : Slotting whole kind slots tally wrong c) where
-  pub room-eight : c < length kind → Room tally 8
+  pub room-eight : c < length kind → TallyRoom tally 8
   room-eight m = less-room _ 8 (omega arith) (v .room)
 
-  pub turn : (r : ℕ) (next : List ℕ) → c < length kind → length next ≡ length tally
+  pub slots-turn : (r : ℕ) (next : List ℕ) → c < length kind → length next ≡ length tally
       → CellTallied tally next (getD kind c 0) (take (8 * c + 8 - 8 * c) (drop (8 * c) slots)) wrong r → Slotting whole kind slots next r (c + 1)
-  turn r next m kept t =
+  slots-turn r next m kept t =
       let k : 8 * (c + 1) ≡ 8 * c + 8 = omega arith in
       -- what was found of the cell's part of the slots, said of the cell
       let here : slotsOk (counters tally) (getD kind c 0) (take (8 * c + 8 - 8 * c) (drop (8 * c) slots)) ≡ slotsAt (counters whole) kind slots c
-      = ap (λ (n : ℕ). slotsOk (n - 1) (getD kind c 0) (take (8 * c + 8 - 8 * c) (drop (8 * c) slots))) (v .same) ∙ ap (slotsOk (counters whole) (getD kind c 0)) (part slots c) in
+      = ap (λ (n : ℕ). slotsOk (n - 1) (getD kind c 0) (take (8 * c + 8 - 8 * c) (drop (8 * c) slots))) (v .size) ∙ ap (slotsOk (counters whole) (getD kind c 0)) (part slots c) in
       record {
         bound = omega arith;
-        same = kept ∙ v .same;
+        size = kept ∙ v .size;
         few = omega (arith, v .few, t .most);
         room = t .room (8 * (length kind - (c + 1))) (less-room _ _ (omega arith) (v .room));
         is = λ e.
@@ -117,9 +117,9 @@ module _ {whole kind slots tally : List ℕ} {wrong c : ℕ} (size : length slot
         right = λ f. t .bad (here ∙ f c (omega arith)) ∙ v .right (λ d l. f d (omega arith));
       }
 
-  pub done : length kind ≤ c → (eqb wrong 0 ≡ below (length kind) (slotsAt (counters whole) kind slots)) × (eqb wrong 0 ≡ true → Tallied whole slots tally)
-  done m = (
-    same-test _ _
+  pub slots-done : length kind ≤ c → (eqb wrong 0 ≡ below (length kind) (slotsAt (counters whole) kind slots)) × (eqb wrong 0 ≡ true → Tallied whole slots tally)
+  slots-done m = (
+    tests-agree _ _
         (λ t. below-all _ _ (λ d l. v .passed (eqb-true wrong 0 t) d (omega (arith, v .bound))))
         (λ t. eq-eqb wrong 0 (v .right (λ d l. below-at _ _ t d (omega (arith, v .bound))))),
     λ t. rw (take-all (8 * c) slots (omega arith)) at (v .is (eqb-true wrong 0 t)),

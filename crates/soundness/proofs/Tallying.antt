@@ -10,7 +10,7 @@ use lib.ListN.{length, getD, take, drop, length-drop}
 use lib.Seq.{length-take-le, take-all}
 use Rattle.rules.specs.Lists.{all}
 use Rattle.laws.specs.Lists.Tables.{drop-next}
-use Rattle.laws.specs.Sound.Tally.{Room, counters, dangling, tallied-none, tallied-zeros, tallied-part, room-after, less-room, dangling-zeros, dangling-length, dangling-part}
+use Rattle.laws.specs.Sound.Tally.{TallyRoom, counters, dangling, tallied-none, tallied-zeros, tallied-part, room-after, less-room, dangling-zeros, dangling-length, dangling-part}
 use Rattle.laws.specs.Sound.Tally as Tally
 use Rattle.soundness.specs.Tests.{Tallies}
 
@@ -19,9 +19,9 @@ pub record Tallying (whole table tally : List ℕ) (first lost i : ℕ) : Type 0
   pub bound : i ≤ length table
   pub is : Tallies whole (take i table) tally first lost
 
-pub begin : (whole table : List ℕ) (first : ℕ) → Tallying whole table whole first first 0
+pub tallying-begin : (whole table : List ℕ) (first : ℕ) → Tallying whole table whole first first 0
 unfolding Tally.dangling
-begin whole table first = record { bound = omega arith; is = (omega arith, tallied-none whole) }
+tallying-begin whole table first = record { bound = omega arith; is = (omega arith, tallied-none whole) }
 
 -- the entry at i, as a part of the table
 one-part : (table : List ℕ) (i : ℕ) → i < length table → getD table i 0 ∷ [] ≡ take (i + 1 - i) (drop i table)
@@ -35,7 +35,7 @@ four-long table i m = omega (arith, length-take-le (i + 4 - i) (drop i table) (o
 
 module _ {whole table tally : List ℕ} {first lost i : ℕ} (v : Tallying whole table tally first lost i) where
   -- where there was room for n references, there is still room for k after the first i, in the tally and in the number of lost ones
-  pub room-here : (n k : ℕ) → Room whole n → first + n < 65536 → i + k ≤ n → Room tally k × (lost + k < 65536)
+  pub room-here : (n k : ℕ) → TallyRoom whole n → first + n < 65536 → i + k ≤ n → TallyRoom tally k × (lost + k < 65536)
   room-here n k r f m =
       let long = length-take-le i table (v .bound) in (
         room-after k (v .is .1) (less-room n _ (omega arith) r),
@@ -43,8 +43,8 @@ module _ {whole table tally : List ℕ} {first lost i : ℕ} (v : Tallying whole
       )
 
   -- the entries from i to e are tallied
-  pub turn : (e r : ℕ) (next : List ℕ) → i ≤ e → e ≤ length table → Tallies tally (take (e - i) (drop i table)) next lost r → Tallying whole table next first r e
-  turn e r next h m w =
+  pub tallying-turn : (e r : ℕ) (next : List ℕ) → i ≤ e → e ≤ length table → Tallies tally (take (e - i) (drop i table)) next lost r → Tallying whole table next first r e
+  tallying-turn e r next h m w =
       record {
         bound = m;
         is = (
@@ -52,18 +52,18 @@ module _ {whole table tally : List ℕ} {first lost i : ℕ} (v : Tallying whole
             arith,
             w .0,
             v .is .0,
-            ap (λ (n : ℕ). dangling (n - 1) (take (e - i) (drop i table))) (v .is .1 .same),
+            ap (λ (n : ℕ). dangling (n - 1) (take (e - i) (drop i table))) (v .is .1 .size),
             dangling-part (counters whole) table i e h,
           ),
           tallied-part table i e h (v .is .1) (w .1),
         );
       }
 
-  pub turn-one : (r : ℕ) (next : List ℕ) → i < length table → Tallies tally (getD table i 0 ∷ []) next lost r → Tallying whole table next first r (i + 1)
-  turn-one r next m w = turn (i + 1) r next (omega arith) (omega arith) (rw (← one-part table i m) w)
+  pub tallying-turn-one : (r : ℕ) (next : List ℕ) → i < length table → Tallies tally (getD table i 0 ∷ []) next lost r → Tallying whole table next first r (i + 1)
+  tallying-turn-one r next m w = tallying-turn (i + 1) r next (omega arith) (omega arith) (rw (← one-part table i m) w)
 
-  pub done : length table ≤ i → Tallies whole table tally first lost
-  done m = rw (take-all i table m) at (v .is)
+  pub tallying-done : length table ≤ i → Tallies whole table tally first lost
+  tallying-done m = rw (take-all i table m) at (v .is)
 
 -- four empty references may be skipped
 pub skipped : (tally l : List ℕ) (lost : ℕ) → all (eqb 0) l ≡ true → Tallies tally l tally lost lost

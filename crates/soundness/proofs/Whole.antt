@@ -16,14 +16,14 @@ use Rattle.rules.specs.Lists as Lists
 use Rattle.rules.specs.Heap.{Heap, cells, queued, running, kindOf, flagsOf, countOf, slotOf, slotsOf, entries}
 use Rattle.rules.specs.Sound.{Sized}
 use Rattle.rules.specs.Check.{cellOk, runningOk, sound}
-use Rattle.laws.specs.Lists.Tests.{every-pass, pass-every, every-not, same, clash, and-join, and-left, and-right, below-all, below-at, all-all, all-at}
+use Rattle.laws.specs.Lists.Tests.{every-pass, pass-every, every-not, tests-agree, clash, and-join, and-left, and-right, below-all, below-at, all-all, all-at}
 use Rattle.laws.specs.Lists.Tables.{inside, slot-entry, slots-length}
 use Rattle.laws.specs.Lists.Occ.{occ-nil, occ-at, occ-find, occ-none, distinct-once, once-distinct}
-use Rattle.laws.specs.Sound.But.{SoundBut, named}
+use Rattle.laws.specs.Sound.But.{SoundBut, referred-used}
 use Rattle.laws.specs.Sound.Reflect.{CellRules, cell-rules, cell-ok, flags-of, running-of, sound-of, of-sound}
 use Rattle.laws.specs.Sound.Facts.{ready-facts, facts-ready}
 use Rattle.laws.specs.Sound.Tally.{dangling, dangling-none, none-dangling}
-use Rattle.soundness.specs.Tests.{shapeOk, slotsOk, countOk, tallyOk}
+use Rattle.soundness.specs.Tests.{shapeOk, slotsOk, countMatches, tallyOk}
 use Rattle.soundness.proofs.Queueing.{names-of, names-ok}
 use Rattle.soundness.proofs.Slots.{of-object, of-other}
 
@@ -43,18 +43,18 @@ shape-ok k f q r o =
     and-join (cell-ok k f 0 [] r)
     (by-cases (ℕ-discrete q 0) (λ e. rw (eq-eqb q 0 e) refl) (λ n. rw (ne-eqb q 0 n) (and-join (eq-eqb k 1 (o (omega arith) .0)) (eq-eqb f 1 (o (omega arith) .1)))))
 
-count-of : (k n t : ℕ) → countOk k n t ≡ true → (n ≡ t) × (k ≡ 0 → n ≡ 0) × (1 ≤ k → 1 ≤ n)
-unfolding countOk
-count-of k n t p =
+matches-of : (k n t : ℕ) → countMatches k n t ≡ true → (n ≡ t) × (k ≡ 0 → n ≡ 0) × (1 ≤ k → 1 ≤ n)
+unfolding countMatches
+matches-of k n t p =
     let q : cond (eqb k 0) (eqb n 0) (leb 1 n) ≡ true = and-right (eqb n t) (cond (eqb k 0) (eqb n 0) (leb 1 n)) p in (
       eqb-true n t (and-left (eqb n t) (cond (eqb k 0) (eqb n 0) (leb 1 n)) p),
       λ e. eqb-true n 0 (rw (eq-eqb k 0 e) at q),
       λ u. leb-true 1 n (rw (ne-eqb k 0 (λ e. omega arith)) at q),
     )
 
-count-ok : (k n t : ℕ) → n ≡ t → (k ≡ 0 → n ≡ 0) → (1 ≤ k → 1 ≤ n) → countOk k n t ≡ true
-unfolding countOk
-count-ok k n t e f u =
+matches-ok : (k n t : ℕ) → n ≡ t → (k ≡ 0 → n ≡ 0) → (1 ≤ k → 1 ≤ n) → countMatches k n t ≡ true
+unfolding countMatches
+matches-ok k n t e f u =
     and-join (eq-eqb n t e)
     (by-cases (ℕ-discrete k 0) (λ z. rw (eq-eqb k 0 z) (eq-eqb n 0 (f z))) (λ z. rw (ne-eqb k 0 z) (le-leb 1 n (u (omega arith)))))
 
@@ -83,7 +83,7 @@ module _ (h : Heap) (z : Sized h) where
         go (suc c) e = inside (h .kind) c (used c (occ-at (suc c) l i m e))
 
     slot-low : (i : ℕ) → i < length (h .slots) → getD (h .slots) i 0 ≤ cells h
-    slot-low = low (h .slots) (λ c o. named h [] s c (omega arith))
+    slot-low = low (h .slots) (λ c o. referred-used h [] s c (omega arith))
 
     plain-rules : (c : ℕ) → CellRules (kindOf h c) (flagsOf h c) 0 []
     unfolding Lists.all
@@ -116,16 +116,16 @@ module _ (h : Heap) (z : Sized h) where
           once-distinct (entries h) (s .queue .once),
           (
             all-all _ (entries h) (λ i m. names-ok (cells h) (getD (entries h) i 0)
-                (by-cases (ℕ-discrete (getD (entries h) i 0) 0) (λ e. absurd (omega (arith, s .queue .named, occ-at 0 (entries h) i m e))) (λ n. omega arith))
+                (by-cases (ℕ-discrete (getD (entries h) i 0) 0) (λ e. absurd (omega (arith, s .queue .noneEmpty, occ-at 0 (entries h) i m e))) (λ n. omega arith))
                 (low (entries h) (λ c o. omega (arith, s .queue .object c o)) i m)),
             (
               below-all _ _ (λ c l. shape-ok _ _ _ (plain-rules c) (λ o. (s .queue .object c o, s .queue .wanting c o))),
               (
-                eq-eqb _ _ (none-dangling (cells h) (h .roots) (low (h .roots) (λ c o. named h [] s c (omega arith)))),
+                eq-eqb _ _ (none-dangling (cells h) (h .roots) (low (h .roots) (λ c o. referred-used h [] s c (omega arith)))),
                 (
                   below-all _ _ slots-right,
                   (
-                    below-all _ _ (λ c l. count-ok _ _ _ (omega (arith, s .counted c, occ-nil (suc c))) (s .freeCount c) (s .positive c)),
+                    below-all _ _ (λ c l. matches-ok _ _ _ (omega (arith, s .counted c, occ-nil (suc c))) (s .freeCount c) (s .positive c)),
                     tt,
                   ),
                 ),
@@ -161,7 +161,7 @@ module _ (h : Heap) (z : Sized h) where
     count : (c : ℕ) → c < cells h
         → (countOf h c ≡ occ (suc c) (entries h) + occ (suc c) (h .roots) + occ (suc c) (h .slots)) × (kindOf h c ≡ 0 → countOf h c ≡ 0) × (1 ≤ kindOf h c → 1 ≤ countOf h c)
     unfolding tallyOk
-    count c l = count-of (kindOf h c) (countOf h c) (occ (suc c) (entries h) + occ (suc c) (h .roots) + occ (suc c) (h .slots)) (below-at _ _ (every-pass _ p .1 .1 .1 .1 .1 .0) c l)
+    count c l = matches-of (kindOf h c) (countOf h c) (occ (suc c) (entries h) + occ (suc c) (h .roots) + occ (suc c) (h .slots)) (below-at _ _ (every-pass _ p .1 .1 .1 .1 .1 .0) c l)
 
     -- beyond the tables all is 0
     rules : (c : ℕ) → CellRules (kindOf h c) (flagsOf h c) 0 []
@@ -259,7 +259,7 @@ module _ (h : Heap) (z : Sized h) where
           queue = record {
             within = few;
             once = once;
-            named = occ-none 0 (entries h) (λ i m e. omega (arith, entry-low i m .0));
+            noneEmpty = occ-none 0 (entries h) (λ i m e. omega (arith, entry-low i m .0));
             object = λ c o. entry-cell c o .0;
             wanting = λ c o. entry-cell c o .1;
             rest = unused;
@@ -273,7 +273,7 @@ module _ (h : Heap) (z : Sized h) where
   pub by-tally : queued h ≤ cells h → runningOk (running h) (queued h) ≡ true → all (eqb 0) (drop (queued h) (h .queue)) ≡ true
       → sound h ≡ tallyOk (h .kind) (h .flags) (h .count) (h .slots) (h .roots) (entries h)
   by-tally few runs rest =
-      same _ _
+      tests-agree _ _
       (λ p. sound-tally (ready-facts (record { sized = z; sound = sound-of h z p })))
       (λ p. of-sound h z (facts-ready (tally-facts few runs rest p) .sound))
 

@@ -9,7 +9,7 @@ use lib.ListN.{length, getD}
 use Rattle.rules.specs.Lists.{every, all, below, distinct, occ}
 use Rattle.rules.specs.Heap.{slotsOf}
 use Rattle.rules.specs.Check.{cellOk}
-use Rattle.laws.specs.Sound.Tally.{counters, Tallied, Room, dangling}
+use Rattle.laws.specs.Sound.Tally.{counters, Tallied, TallyRoom, dangling}
 
 -- a reference that names one of n cells
 unfoldable pub names : ℕ → ℕ → Bool
@@ -24,8 +24,8 @@ unfoldable pub slotsOk : ℕ → ℕ → List ℕ → Bool
 slotsOk n k s = cond (eqb k 1) (eqb (dangling n s) 0) (all (eqb 0) s)
 
 -- a cell's count n is t, what was tallied, and 0 exactly if the cell is free
-unfoldable pub countOk : ℕ → ℕ → ℕ → Bool
-countOk k n t = eqb n t && cond (eqb k 0) (eqb n 0) (leb 1 n)
+unfoldable pub countMatches : ℕ → ℕ → ℕ → Bool
+countMatches k n t = eqb n t && cond (eqb k 0) (eqb n 0) (leb 1 n)
 
 -- the same of cell c, in the tables; q and t have an entry for each cell, as a tally without its entry 0
 abbrev pub shapeAt : List ℕ → List ℕ → List ℕ → ℕ → Bool
@@ -35,7 +35,7 @@ abbrev pub slotsAt : ℕ → List ℕ → List ℕ → ℕ → Bool
 slotsAt n k s c = slotsOk n (getD k c 0) (slotsOf s c)
 
 abbrev pub countAt : List ℕ → List ℕ → List ℕ → ℕ → Bool
-countAt k n t c = countOk (getD k c 0) (getD n c 0) (getD t c 0)
+countAt k n t c = countMatches (getD k c 0) (getD n c 0) (getD t c 0)
 
 -- what is found with a tally of the queue's entries, then of the roots, then of the slots
 unfoldable pub tallyOk : List ℕ → List ℕ → List ℕ → List ℕ → List ℕ → List ℕ → Bool
@@ -44,7 +44,7 @@ tallyOk kind flags count slots roots entries =
     ∷ below (length kind) (λ c. shapeOk (getD kind c 0) (getD flags c 0) (occ (suc c) entries))
     ∷ eqb (dangling (length kind) roots) 0
     ∷ below (length kind) (slotsAt (length kind) kind slots)
-    ∷ below (length kind) (λ c. countOk (getD kind c 0) (getD count c 0) (occ (suc c) entries + occ (suc c) roots + occ (suc c) slots)) ∷ [])
+    ∷ below (length kind) (λ c. countMatches (getD kind c 0) (getD count c 0) (occ (suc c) entries + occ (suc c) roots + occ (suc c) slots)) ∷ [])
 
 -- what tallying references comes to: `before` and `after` are the tally, `lost` and r how many references so far name no cell
 abbrev pub Tallies : List ℕ → List ℕ → List ℕ → ℕ → ℕ → Type 0
@@ -54,7 +54,7 @@ Tallies before l after lost r = (r ≡ lost + dangling (counters before) l) × T
 pub record CellTallied (before after : List ℕ) (kind : ℕ) (slots : List ℕ) (wrong r : ℕ) : Type 0 where
   pub more : wrong ≤ r
   pub most : r ≤ wrong + 8
-  pub room : (k : ℕ) → Room before (8 + k) → Room after k
+  pub room : (k : ℕ) → TallyRoom before (8 + k) → TallyRoom after k
   pub right : r ≡ wrong → (slotsOk (counters before) kind slots ≡ true) × Tallied before slots after
   pub bad : slotsOk (counters before) kind slots ≡ true → r ≡ wrong
 

@@ -10,8 +10,8 @@ ghost use Rattle.rules.specs.Lists.{all, below, distinct};
 ghost use Rattle.rules.specs.Heap.{tables};
 ghost use Rattle.rules.specs.Sound.{Sized};
 ghost use Rattle.rules.specs.Check.{runningOk, fits, sound};
-ghost use Rattle.laws.specs.Sound.Tally.{counters, Tallied, Room};
-ghost use Rattle.soundness.specs.Tests.{names, shapeOk, countOk, Tallies, CellTallied, shapeAt, slotsAt, countAt, tallyOk, Scratch};
+ghost use Rattle.laws.specs.Sound.Tally.{counters, Tallied, TallyRoom};
+ghost use Rattle.soundness.specs.Tests.{names, shapeOk, countMatches, Tallies, CellTallied, shapeAt, slotsAt, countAt, tallyOk, Scratch};
 use rules::CELLS_MAX;
 use rules::ROOTS;
 use rules::SLOTS;
@@ -23,7 +23,7 @@ const TALLY_MAX: usize = CELLS_MAX + 1;
 
 // Tallies one reference. One above N has no entry, names no cell and is lost: answers how many are, with the `lost` of before, which spares the loops around it a sum.
 fn tally_one(tally: &mut [u16], reference: u16, lost: usize) -> usize
-    requires { ⌜ Room (now tally) 1 × (lost + 1 < 65536) ⌝ }
+    requires { ⌜ TallyRoom (now tally) 1 × (lost + 1 < 65536) ⌝ }
     ensures { λ r. ⌜ Tallies (now (tally .entry)) (reference ∷ []) (now (tally .exit)) lost r ⌝ }
 {
     let r = reference as usize;
@@ -47,7 +47,7 @@ fn four_empty(four: &[u16]) -> bool
 
 // Tallies four references, as `tally_one` does each; where all are empty, as most slots are, they are skipped.
 fn tally_four(tally: &mut [u16], four: &[u16], before: usize) -> usize
-    requires { ⌜ Room (now tally) 4 × (before + 4 < 65536) × (length (now four) ≡ 4) ⌝ }
+    requires { ⌜ TallyRoom (now tally) 4 × (before + 4 < 65536) × (length (now four) ≡ 4) ⌝ }
     ensures { λ r. ⌜ Tallies (now (tally .entry)) (now (four .entry)) (now (tally .exit)) before r ⌝ }
 {
     if four_empty(four) {
@@ -64,7 +64,7 @@ fn tally_four(tally: &mut [u16], four: &[u16], before: usize) -> usize
 
 // Tallies the references of a table, four at a time; answers how many are lost, with the `before` of other tables.
 fn tally_all(tally: &mut [u16], references: &[u16], before: usize) -> usize
-    requires { ⌜ Room (now tally) (length (now references)) × (before + length (now references) < 65536) × (length (now references) % 4 ≡ 0) ⌝ }
+    requires { ⌜ TallyRoom (now tally) (length (now references)) × (before + length (now references) < 65536) × (length (now references) % 4 ≡ 0) ⌝ }
     ensures { λ r. ⌜ Tallies (now (tally .entry)) (now (references .entry)) (now (tally .exit)) before r ⌝ }
 {
     let mut lost = before;
@@ -128,7 +128,7 @@ fn empty(slots: &[u16]) -> bool
 
 // Tallies the slots of a cell of this kind; answers how many faults there are, with the `wrong` of before: an object's lost references, or 1 where the slots of another cell are not empty.
 fn tally_cell(tally: &mut [u16], kind: u16, slots: &[u16], wrong: usize) -> usize
-    requires { ⌜ Room (now tally) 8 × (length (now slots) ≡ 8) × (wrong + 8 < 65536) ⌝ }
+    requires { ⌜ TallyRoom (now tally) 8 × (length (now slots) ≡ 8) × (wrong + 8 < 65536) ⌝ }
     ensures { λ r. ⌜ CellTallied (now (tally .entry)) (now (tally .exit)) kind (now (slots .entry)) wrong r ⌝ }
 {
     if kind == OBJECT {
@@ -142,7 +142,7 @@ fn tally_cell(tally: &mut [u16], kind: u16, slots: &[u16], wrong: usize) -> usiz
 
 // Tallies the slots of all cells: is each as it may be?
 fn tally_slots(tally: &mut [u16], kind: &[u16], slots: &[u16]) -> bool
-    requires { ⌜ (length (now kind) ≤ 1024) × (length (now slots) ≡ 8 * length (now kind)) × Room (now tally) (length (now slots)) ⌝ }
+    requires { ⌜ (length (now kind) ≤ 1024) × (length (now slots) ≡ 8 * length (now kind)) × TallyRoom (now tally) (length (now slots)) ⌝ }
     ensures { λ r. ⌜ (r ≡ below (length (now (kind .entry))) (slotsAt (counters (now (tally .entry))) (now (kind .entry)) (now (slots .entry)))) × (r ≡ true → Tallied (now (tally .entry)) (now (slots .entry)) (now (tally .exit))) ⌝ }
 {
     let mut wrong = 0;
@@ -185,7 +185,7 @@ fn shapes_ok(kind: &[u16], flags: &[u16], queued: &[u16]) -> bool
 
 // Is a cell's count what was tallied, and 0 exactly if the cell is free?
 fn count_ok(kind: u16, count: u16, tallied: u16) -> bool
-    ensures { λ r. ⌜ r ≡ countOk kind count tallied ⌝ }
+    ensures { λ r. ⌜ r ≡ countMatches kind count tallied ⌝ }
 {
     (count == tallied) & ((kind == 0) == (count == 0))
 }

@@ -15,7 +15,7 @@ use Rattle.laws.specs.Lists.Select.{select-only, select-next, select-rest}
 use Rattle.laws.specs.Sound.But.{refit}
 use Rattle.laws.specs.Collect.Phases.{Enqueued, enqueued}
 use Rattle.laws.specs.Collect.Append.{enqueue-append}
-use Rattle.sweep.specs.Phases.{only, Room, Queued}
+use Rattle.sweep.specs.Phases.{only, QueueRoom, Queued}
 
 module _ {k f n q w : List ℕ} where
   -- a cell that isn't due
@@ -52,18 +52,19 @@ module _ {k f n q w : List ℕ} where
 among : (p : ℕ → Bool) (c n : ℕ) → c < n → (rest : List ℕ) × (select p n ≡ (select p c ++ only (p c) c) ++ rest)
 among p c n h = let r = select-rest p (c + 1) n (omega arith) in (r .0, r .1 ∙ ap (λ (l : List ℕ). l ++ r .0) (select-next p c))
 
-module _ {k f n q w m n′ q′ w′ : List ℕ} {r : ℕ} (p : ℕ → Bool) (c : ℕ) (inside : c < length k) (room : Room k f n q w m (select p (length k))) (a : Queued k f n q w (select p c) n′ q′ w′ r) where
+module _ {k f n q w m n′ q′ w′ : List ℕ} {r : ℕ} (p : ℕ → Bool) (c : ℕ) (inside : c < length k) (room : QueueRoom k f n q w m (select p (length k)))
+    (a : Queued k f n q w (select p c) n′ q′ w′ r) where
   h : Heap
   h = tables k f n [] [] q w
 
-  all : (rest : List ℕ) × (select p (length k) ≡ (select p c ++ only (p c) c) ++ rest)
-  all = among p c (length k) inside
+  all-cells : (rest : List ℕ) × (select p (length k) ≡ (select p c ++ only (p c) c) ++ rest)
+  all-cells = among p c (length k) inside
 
-  sum : length (select p (length k)) ≡ length (select p c) + length (only (p c) c) + length (all .0)
-  sum = ap length (all .1) ∙ length-append (select p c ++ only (p c) c) (all .0) ∙ ap (λ (x : ℕ). x + length (all .0)) (length-append (select p c) (only (p c) c))
+  sum : length (select p (length k)) ≡ length (select p c) + length (only (p c) c) + length (all-cells .0)
+  sum = ap length (all-cells .1) ∙ length-append (select p c ++ only (p c) c) (all-cells .0) ∙ ap (λ (x : ℕ). x + length (all-cells .0)) (length-append (select p c) (only (p c) c))
 
-  occs : (x : ℕ) → occ x (select p (length k)) ≡ occ x (select p c) + occ x (only (p c) c) + occ x (all .0)
-  occs x = ap (occ x) (all .1) ∙ occ-append x (select p c ++ only (p c) c) (all .0) ∙ ap (λ (y : ℕ). y + occ x (all .0)) (occ-append x (select p c) (only (p c) c))
+  occs : (x : ℕ) → occ x (select p (length k)) ≡ occ x (select p c) + occ x (only (p c) c) + occ x (all-cells .0)
+  occs x = ap (occ x) (all-cells .1) ∙ occ-append x (select p c ++ only (p c) c) (all-cells .0) ∙ ap (λ (y : ℕ). y + occ x (all-cells .0)) (occ-append x (select p c) (only (p c) c))
 
   passed : Enqueued h (enqueueAll h (select p c)) (select p c)
   unfolding h
@@ -76,7 +77,7 @@ module _ {k f n q w m n′ q′ w′ : List ℕ} {r : ℕ} (p : ℕ → Bool) (c
   is = a .heap [] []
 
   -- what the loop's next turn asks
-  pub room-turn : Room k f n′ q′ w′ m (only (p c) c)
+  pub room-turn : QueueRoom k f n′ q′ w′ m (only (p c) c)
   unfolding h
   room-turn = record {
     fit = refit refl refl (ap (λ (g : Heap). length (g .count)) is ∙ passed .countLength) (ap (λ (g : Heap). length (g .queue)) is ∙ passed .queueLength)
@@ -91,7 +92,7 @@ module _ {k f n q w m n′ q′ w′ : List ℕ} {r : ℕ} (p : ℕ → Bool) (c
   queued-small = omega (arith, a .many, room .room, room .fit .small, sum)
 
 -- room for one cell that is due
-pub room-one : {k f n q w m : List ℕ} (c : ℕ) {b : Bool} → b ≡ true → Room k f n q w m (only b c) → (getD w 0 0 < length k) × (getD n c 0 + 1 < 65536)
+pub room-one : {k f n q w m : List ℕ} (c : ℕ) {b : Bool} → b ≡ true → QueueRoom k f n q w m (only b c) → (getD w 0 0 < length k) × (getD n c 0 + 1 < 65536)
 room-one {k} {f} {n} {q} {w} {m} c e room =
-    let one : Room k f n q w m (c ∷ []) = subst (λ (b : Bool). Room k f n q w m (only b c)) e room in
+    let one : QueueRoom k f n q w m (c ∷ []) = subst (λ (b : Bool). QueueRoom k f n q w m (only b c)) e room in
     (omega (arith, one .room), omega (arith, one .small c, occ-one c c refl))

@@ -19,44 +19,44 @@ use Rattle.sweep.specs.Phases.{only, TakenOff, Unlinked}
 
 -- ---- one reference
 
-pub lowered-empty : {n : List ℕ} (r : ℕ) → r ≡ 0 → TakenOff n (r ∷ []) n
+pub taken-off-empty : {n : List ℕ} (r : ℕ) → r ≡ 0 → TakenOff n (r ∷ []) n
 unfolding lowerAll
-lowered-empty r e = record { heap = λ k f s t q w. rw e refl }
+taken-off-empty r e = record { heap = λ k f s t q w. rw e refl }
 
-pub lowered-one : {n n′ : List ℕ} (r : ℕ) → r ≢ 0 → n′ ≡ set n (r - 1) (getD n (r - 1) 0 - 1) → TakenOff n (r ∷ []) n′
+pub taken-off-one : {n n′ : List ℕ} (r : ℕ) → r ≢ 0 → n′ ≡ set n (r - 1) (getD n (r - 1) 0 - 1) → TakenOff n (r ∷ []) n′
 unfolding lowerAll setCount
-lowered-one zero f e = absurd (f refl)
-lowered-one {n} {n′} (suc c) f e =
+taken-off-one zero f e = absurd (f refl)
+taken-off-one {n} {n′} (suc c) f e =
     let i : suc c - 1 ≡ c = omega arith in
     let e₁ : n′ ≡ set n c (getD n c 0 - 1) = e ∙ ap (λ (j : ℕ). set n j (getD n j 0 - 1)) i in
     record { heap = λ k f s t q w i. tables k f (e₁ i) s t q w }
 
 -- the guard: a count of zero stays
-pub lowered-zero : {n : List ℕ} (r : ℕ) → r ≢ 0 → getD n (r - 1) 0 ≡ 0 → TakenOff n (r ∷ []) n
-lowered-zero {n} r f z =
+pub taken-off-zero : {n : List ℕ} (r : ℕ) → r ≢ 0 → getD n (r - 1) 0 ≡ 0 → TakenOff n (r ∷ []) n
+taken-off-zero {n} r f z =
     let e : getD n (r - 1) 0 - 1 ≡ getD n (r - 1) 0 = omega arith in
-    lowered-one r f (sym (set-getD n (r - 1) 0) ∙ ap (set n (r - 1)) (sym e))
+    taken-off-one r f (sym (set-getD n (r - 1) 0) ∙ ap (set n (r - 1)) (sym e))
 
 -- ---- the slots of a cell
 
-pub lowered-start : {n : List ℕ} (l : List ℕ) → TakenOff n (take 0 l) n
+pub taken-off-start : {n : List ℕ} (l : List ℕ) → TakenOff n (take 0 l) n
 unfolding lowerAll
-lowered-start l = record { heap = λ k f s t q w. refl }
+taken-off-start l = record { heap = λ k f s t q w. refl }
 
-lowered-then : {n n′ n″ : List ℕ} (l m : List ℕ) → TakenOff n l n′ → TakenOff n′ m n″ → TakenOff n (l ++ m) n″
-lowered-then {n} l m a b = record { heap = λ k f s t q w. b .heap k f s t q w ∙ ap (λ (h : Heap). lowerAll h m) (a .heap k f s t q w) ∙ sym (lower-append (tables k f n s t q w) l m) }
+taken-off-then : {n n′ n″ : List ℕ} (l m : List ℕ) → TakenOff n l n′ → TakenOff n′ m n″ → TakenOff n (l ++ m) n″
+taken-off-then {n} l m a b = record { heap = λ k f s t q w. b .heap k f s t q w ∙ ap (λ (h : Heap). lowerAll h m) (a .heap k f s t q w) ∙ sym (lower-append (tables k f n s t q w) l m) }
 
 module _ {n n′ : List ℕ} (slots : List ℕ) (c cells : ℕ) (fit : length slots ≡ 8 * cells) (inside : c < cells) where
-  pub lowered-next : {n″ : List ℕ} (j : ℕ) → j < 8 → TakenOff n (take j (slotsOf slots c)) n′ → TakenOff n′ (getD slots (8 * c + j) 0 ∷ []) n″
+  pub taken-off-next : {n″ : List ℕ} (j : ℕ) → j < 8 → TakenOff n (take j (slotsOf slots c)) n′ → TakenOff n′ (getD slots (8 * c + j) 0 ∷ []) n″
       → TakenOff n (take (j + 1) (slotsOf slots c)) n″
-  lowered-next j b a x =
+  taken-off-next j b a x =
       let e : take (j + 1) (slotsOf slots c) ≡ take j (slotsOf slots c) ++ (getD slots (8 * c + j) 0 ∷ []) =
       ap (λ (i : ℕ). take i (slotsOf slots c)) (add-one j) ∙ take-suc (slotsOf slots c) j 0 (omega (arith, slots-length slots c cells fit inside))
       ∙ ap (λ (r : ℕ). take j (slotsOf slots c) ++ (r ∷ [])) (slot-entry slots c j b) in
-      rw e (lowered-then (take j (slotsOf slots c)) (getD slots (8 * c + j) 0 ∷ []) a x)
+      rw e (taken-off-then (take j (slotsOf slots c)) (getD slots (8 * c + j) 0 ∷ []) a x)
 
-  pub lowered-all : (j : ℕ) → 8 ≤ j → TakenOff n (take j (slotsOf slots c)) n′ → TakenOff n (slotsOf slots c) n′
-  lowered-all j b a = rw (take-all j (slotsOf slots c) (omega (arith, slots-length slots c cells fit inside))) at a
+  pub taken-off-all : (j : ℕ) → 8 ≤ j → TakenOff n (take j (slotsOf slots c)) n′ → TakenOff n (slotsOf slots c) n′
+  taken-off-all j b a = rw (take-all j (slotsOf slots c) (omega (arith, slots-length slots c cells fit inside))) at a
 
 -- ---- the cells, one after another
 

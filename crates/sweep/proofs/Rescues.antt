@@ -44,10 +44,6 @@ module _ {f f′ : List ℕ} (m : List ℕ) (c : ℕ) (inside : c ≤ length f) 
   unfolding h
   is = a .heap [] [] [] [] [] []
 
-  pub rescued-length : length f′ ≡ length f
-  unfolding h
-  rescued-length = ap (λ (g : Heap). length (g .flags)) is ∙ saved .flagsLength
-
   kept : getD f′ c 0 ≡ getD f c 0
   unfolding h
   kept = ap (λ (g : Heap). getD (g .flags) c 0) is ∙ saved .flagsOut c (select-new (isRescued f m) c)

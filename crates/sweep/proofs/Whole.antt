@@ -12,14 +12,14 @@ use Rattle.rules.specs.Release.{finalizable}
 use Rattle.rules.specs.Marking.{markFrom}
 use Rattle.rules.specs.Collect.{reachedMarks, unreachedFinalizable, keptMarks, garbage, enqueueAll, wipeAll, rescueAll, rescued, swept, collect}
 use Rattle.rules.specs.Calls.{answers}
-use Rattle.laws.specs.Marking.Marks.{Within, Slots, Settled}
+use Rattle.laws.specs.Marking.Marks.{Within, Slots, ClosedMarks}
 use Rattle.laws.specs.Marking.Closure.{zeros-settled}
 use Rattle.laws.specs.Reach.Marked.{slots-within, roots-within, entries-within, reached-length, reached-settled}
 use Rattle.laws.specs.Sound.But.{SoundBut}
 use Rattle.laws.specs.Sound.Facts.{facts-ready, largest-count}
 use Rattle.laws.specs.Collect.Phases.{Enqueued, enqueued}
 use Rattle.laws.specs.Collect.Live.{due-only, due-once, due-room, due-within, kept-length}
-use Rattle.sweep.specs.Phases.{isRescued, dueOf, garbageOf, rescuedOf, Room, Queued, Unlinked, Same, Freed, Restored, MarkedQueued, rounds, Swept, Collected}
+use Rattle.sweep.specs.Phases.{isRescued, dueOf, garbageOf, rescuedOf, QueueRoom, Queued, Unlinked, Same, Freed, Restored, MarkedQueued, rounds, Swept, Collected}
 
 module _ {h : Heap} (s : SoundBut h []) where
   sized : (m : List ℕ) → length m ≡ cells h → Slots (h .slots) (length m)
@@ -28,7 +28,7 @@ module _ {h : Heap} (s : SoundBut h []) where
   -- ---- the first marking
 
   pub first-asks : (m : List ℕ) → m ≡ replicate (cells h) 0
-      → Slots (h .slots) (length m) × (Within (length m) (h .roots) × (Within (length m) (entries h) × Settled (h .slots) m))
+      → Slots (h .slots) (length m) × (Within (length m) (h .roots) × (Within (length m) (entries h) × ClosedMarks (h .slots) m))
   first-asks m e =
       let l : length m ≡ cells h = ap length e ∙ length-replicate (cells h) 0 in
       (sized m l, (rw l (roots-within h s), (rw l (entries-within h s), rw e (zeros-settled (cells h)))))
@@ -43,8 +43,8 @@ module _ {h : Heap} (s : SoundBut h []) where
   unfolding unreachedFinalizable finalizable
   due-is m₁ e = ap (λ (m : List ℕ). dueOf (h .kind) (h .flags) m) e
 
-  pub queue-asks : (m₁ : List ℕ) → m₁ ≡ reachedMarks h → Room (h .kind) (h .flags) (h .count) (h .queue) (h .control) m₁ (dueOf (h .kind) (h .flags) m₁)
-  queue-asks m₁ e = subst (λ (l : List ℕ). Room (h .kind) (h .flags) (h .count) (h .queue) (h .control) m₁ l) (sym (due-is m₁ e)) (record {
+  pub queue-asks : (m₁ : List ℕ) → m₁ ≡ reachedMarks h → QueueRoom (h .kind) (h .flags) (h .count) (h .queue) (h .control) m₁ (dueOf (h .kind) (h .flags) m₁)
+  queue-asks m₁ e = subst (λ (l : List ℕ). QueueRoom (h .kind) (h .flags) (h .count) (h .queue) (h .control) m₁ l) (sym (due-is m₁ e)) (record {
     fit = s .fit;
     marks-size = ap length e ∙ reached-length h s;
     room = due-room h s;
@@ -82,7 +82,7 @@ module _ {h : Heap} (s : SoundBut h []) where
     part : take (queued h + r - queued h) (drop (queued h) q′) ≡ map suc (unreachedFinalizable h)
     part = let x : queued h + r - queued h ≡ r = omega arith in ap (λ (y : ℕ). take y (drop (queued h) q′)) x ∙ new
 
-    pub second-asks : Slots (h .slots) (length m₁) × (Within (length m₁) (take (queued h + r - queued h) (drop (queued h) q′)) × Settled (h .slots) m₁)
+    pub second-asks : Slots (h .slots) (length m₁) × (Within (length m₁) (take (queued h + r - queued h) (drop (queued h) q′)) × ClosedMarks (h .slots) m₁)
     second-asks = (sized m₁ (ap length e ∙ reached-length h s), (rw (part, e) (due-within h s), rw e (reached-settled h s)))
 
     pub second-kept : (m₂ : List ℕ) → m₂ ≡ markFrom (h .slots) m₁ (take (queued h + r - queued h) (drop (queued h) q′))

@@ -41,7 +41,7 @@ only b c = cond b (c ∷ []) []
 -- ---- queueing
 
 -- the tables fit, the queue has room for the cells l, and their counts may rise
-pub record Room (kind flags count queue control marks l : List ℕ) : Type 0 where
+pub record QueueRoom (kind flags count queue control marks l : List ℕ) : Type 0 where
   pub fit : Fit kind flags count queue control
   pub marks-size : length marks ≡ length kind
   pub room : getD control 0 0 + length l ≤ length kind

@@ -14,8 +14,8 @@ use marking::mark_from;
 use marking::unmarked;
 use rules::Answer;
 use rules::DONE;
-ghost use Prim.Native.Nat.{ℕ, _+_, _*_, _≤_, _<_};
-ghost use mathlib.Core.List.{[], _∷_};
+ghost use Prim.Native.Nat.{_≤_};
+ghost use mathlib.Core.List.{[]};
 ghost use mathlib.Core.Path.{_≡_};
 ghost use lib.ListN.{length, replicate};
 ghost use Rattle.rules.specs.Heap.{tables};
@@ -69,7 +69,7 @@ fn sweep_unmarked(
 }
 
 // COLLECT with marks that are all unmarked.
-fn collect_with(
+fn mark_and_sweep_with(
     kind: &mut [u16],
     flags: &mut [u16],
     count: &mut [u16],
@@ -95,7 +95,7 @@ fn collect_with(
 }
 
 // COLLECT, on a sound heap.
-pub fn collect(
+pub fn mark_and_sweep(
     kind: &mut [u16],
     flags: &mut [u16],
     count: &mut [u16],
@@ -110,7 +110,7 @@ pub fn collect(
 {
     let n = kind.len();
     let mut marks = unmarked();
-    collect_with(
+    mark_and_sweep_with(
         kind,
         flags,
         count,

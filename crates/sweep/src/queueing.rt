@@ -3,7 +3,7 @@ use crate::cells::is_due;
 ghost use Prim.Native.Nat.{_+_, _<_};
 ghost use mathlib.Core.Path.{_≡_};
 ghost use lib.ListN.{length, getD, set};
-ghost use Rattle.sweep.specs.Phases.{isDue, dueOf, only, Room, Queued};
+ghost use Rattle.sweep.specs.Phases.{isDue, dueOf, only, QueueRoom, Queued};
 
 // A cell joins the end of the queue.
 fn enqueue(queue: &mut [u16], control: &mut [u16], c: usize)
@@ -29,7 +29,7 @@ fn queue_cell(
     c: usize,
 ) -> u16
     requires { ⌜ c < length (now kind) ⌝ }
-    requires { ⌜ Room (now kind) (now flags) (now count) (now queue) (now control) (now marks) (only (isDue (now kind) (now flags) (now marks) c) c) ⌝ }
+    requires { ⌜ QueueRoom (now kind) (now flags) (now count) (now queue) (now control) (now marks) (only (isDue (now kind) (now flags) (now marks) c) c) ⌝ }
     ensures { λ r. ⌜ Queued (now (kind .entry)) (now (flags .entry)) (now (count .entry)) (now (queue .entry)) (now (control .entry))
         (only (isDue (now (kind .entry)) (now (flags .entry)) (now (marks .entry)) c) c) (now (count .exit)) (now (queue .exit)) (now (control .exit)) r ⌝ }
 {
@@ -50,7 +50,7 @@ pub fn queue_unmarked(
     control: &mut [u16],
     marks: &[u8],
 ) -> u16
-    requires { ⌜ Room (now kind) (now flags) (now count) (now queue) (now control) (now marks) (dueOf (now kind) (now flags) (now marks)) ⌝ }
+    requires { ⌜ QueueRoom (now kind) (now flags) (now count) (now queue) (now control) (now marks) (dueOf (now kind) (now flags) (now marks)) ⌝ }
     ensures { λ r. ⌜ Queued (now (kind .entry)) (now (flags .entry)) (now (count .entry)) (now (queue .entry)) (now (control .entry))
         (dueOf (now (kind .entry)) (now (flags .entry)) (now (marks .entry))) (now (count .exit)) (now (queue .exit)) (now (control .exit)) r ⌝ }
 {

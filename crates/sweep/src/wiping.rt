@@ -1,7 +1,6 @@
 // The second round: unmarked cells become all zeros.
 use crate::cells::is_garbage;
 ghost use Prim.Native.Nat.{_+_, _*_, _≤_, _<_};
-ghost use mathlib.Core.List.{[], _∷_};
 ghost use mathlib.Core.Path.{_≡_};
 ghost use lib.ListN.{length, replicate};
 ghost use lib.Seq.{sets};

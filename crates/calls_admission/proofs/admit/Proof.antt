@@ -1,4 +1,4 @@
--- `calls::admit::admit` meets its contract: each way out is one law of `admission`.
+-- `calls_admission::admit` meets its contract: each way out is one law of `admission`.
 -- Assumes nothing.
 use mathlib.Core.Path.{sym, _∙_}
 use borrow.Author.Tests.{not-true, not-false}

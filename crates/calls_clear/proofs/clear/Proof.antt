@@ -1,4 +1,4 @@
--- `calls::clear::clear` meets its contract: refused by what `admit` answers, or as the inner function does.
+-- `calls_clear::clear` meets its contract: refused by what `admit` answers, or as the inner function does.
 -- Assumes nothing.
 use mathlib.Core.Path.{refl}
 use Rattle.rules.specs.Refusals.{isFresh}
@@ -41,28 +41,44 @@ clear-sound-requires : tie.Need-clear-sound-requires
 clear-sound-requires c κs = outer-ready (c .before .before .before .before .before .before .before .before .admit .ensures) (c .before .before .before .before .before .before .before .if1 .left)
 
 same-length-8 : tie.Need-same-length-8
-same-length-8 c = (c .before .before .before .before .before .before .before .before .before .before .before .before .before .before .clear-sound .kept .0)
+same-length-8 c =
+    let clear-sound = c .before .before .before .before .before .before .before .before .before .before .before .before .before .before .clear-sound in
+    (clear-sound .kept .0)
 
 same-length-9 : tie.Need-same-length-9
-same-length-9 c = (c .before .before .before .before .before .before .before .before .before .before .before .before .before .before .clear-sound .kept .1 .0)
+same-length-9 c =
+    let clear-sound = c .before .before .before .before .before .before .before .before .before .before .before .before .before .before .clear-sound in
+    (clear-sound .kept .1 .0)
 
 same-length-10 : tie.Need-same-length-10
-same-length-10 c = (c .before .before .before .before .before .before .before .before .before .before .before .before .before .before .clear-sound .kept .1 .1 .0)
+same-length-10 c =
+    let clear-sound = c .before .before .before .before .before .before .before .before .before .before .before .before .before .before .clear-sound in
+    (clear-sound .kept .1 .1 .0)
 
 same-length-11 : tie.Need-same-length-11
-same-length-11 c = (c .before .before .before .before .before .before .before .before .before .before .before .before .before .before .clear-sound .kept .1 .1 .1 .0)
+same-length-11 c =
+    let clear-sound = c .before .before .before .before .before .before .before .before .before .before .before .before .before .before .clear-sound in
+    (clear-sound .kept .1 .1 .1 .0)
 
 same-length-12 : tie.Need-same-length-12
-same-length-12 c = (c .before .before .before .before .before .before .before .before .before .before .before .before .before .before .clear-sound .kept .1 .1 .1 .1 .0)
+same-length-12 c =
+    let clear-sound = c .before .before .before .before .before .before .before .before .before .before .before .before .before .before .clear-sound in
+    (clear-sound .kept .1 .1 .1 .1 .0)
 
 same-length-13 : tie.Need-same-length-13
-same-length-13 c = (c .before .before .before .before .before .before .before .before .before .before .before .before .before .before .clear-sound .kept .1 .1 .1 .1 .1 .0)
+same-length-13 c =
+    let clear-sound = c .before .before .before .before .before .before .before .before .before .before .before .before .before .before .clear-sound in
+    (clear-sound .kept .1 .1 .1 .1 .1 .0)
 
 same-length-14 : tie.Need-same-length-14
-same-length-14 c = (c .before .before .before .before .before .before .before .before .before .before .before .before .before .before .clear-sound .kept .1 .1 .1 .1 .1 .1 .0)
+same-length-14 c =
+    let clear-sound = c .before .before .before .before .before .before .before .before .before .before .before .before .before .before .clear-sound in
+    (clear-sound .kept .1 .1 .1 .1 .1 .1 .0)
 
 returns-2 : tie.Need-returns-2
-returns-2 c = (c .before .before .before .before .before .before .before .before .before .before .before .before .before .before .clear-sound .ensures)
+returns-2 c =
+    let clear-sound = c .before .before .before .before .before .before .before .before .before .before .before .before .before .before .clear-sound in
+    (clear-sound .ensures)
 
 pub clear-spec : {M : Type 1} → statement M
 clear-spec =

@@ -1,4 +1,4 @@
--- `calls::clear::clear_sound` meets its contract.
+-- `calls_clear::clear_sound` meets its contract.
 -- Assumes nothing.
 use native.Mathlib.Omega.{arith}
 use mathlib.Core.Path.{refl}
@@ -6,7 +6,7 @@ use Rattle.rules.specs.Refusals.{isFresh}
 use Rattle.laws.specs.Calls.Cases.{clear-number}
 use Rattle.laws.specs.Calls.Admission.{inner-refused}
 use Rattle.calls_clear.proofs.Clearing.{clear-did}
-use Rattle.release.specs.Written.{writable}
+use Rattle.release.proofs.Written.{writable}
 use borrow.Author.Needs.{needs}
 use Rattle.calls_clear.proofs.clear_sound.Statement.{statement}
 use Rattle.calls_clear.proofs.clear_sound.Tie as tie
@@ -24,31 +24,60 @@ refuse-requires : tie.Need-refuse-requires
 refuse-requires c κs = search needs
 
 returns : tie.Need-returns
-returns c = inner-refused (c .before .before .before .before .before .before .before .before .before .before .before .pre) (unfold isFresh in refl) (clear-number _ _ (omega (arith, rw (c .before .enum-told .given .1) at (c .before .before .before .of .ensures)))) (λ e. omega arith) (c .refuse .ensures)
+returns c =
+    inner-refused
+    (c .before .before .before .before .before .before .before .before .before .before .before .pre)
+    (unfold isFresh in refl)
+    (clear-number _ _ (omega (arith, rw (c .before .enum-told .given .1) at (c .before .before .before .of .ensures))))
+    (λ e. omega arith)
+    (c .refuse .ensures)
 
 write-root-requires : tie.Need-write-root-requires
-write-root-requires c κs = writable (c .before .before .before .before .before .before .before .before .before .before .before .before .before .before .before .before .before .before .pre) (omega (arith, (rw (c .before .before .before .before .before .before .before .before .to .given .1) at (c .before .before .before .before .before .before .before .before .before .before .of .ensures)))) (λ d e. absurd (omega arith))
+write-root-requires c κs =
+    let entry = c .before .before .before .before .before .before .before .before .before .before .before .before .before .before .before .before .before .before in
+    writable
+    (entry .pre)
+    (omega (
+      arith,
+      (rw (c .before .before .before .before .before .before .before .before .to .given .1)
+          at (c .before .before .before .before .before .before .before .before .before .before .of .ensures)),
+    ))
+    (λ d e. absurd (omega arith))
 
 same-length : tie.Need-same-length
-same-length c = (c .before .before .before .before .before .before .before .before .before .before .before .before .before .before .write-root .kept .0)
+same-length c =
+    let write-root = c .before .before .before .before .before .before .before .before .before .before .before .before .before .before .write-root in
+    (write-root .kept .0)
 
 same-length-2 : tie.Need-same-length-2
-same-length-2 c = (c .before .before .before .before .before .before .before .before .before .before .before .before .before .before .write-root .kept .1 .0)
+same-length-2 c =
+    let write-root = c .before .before .before .before .before .before .before .before .before .before .before .before .before .before .write-root in
+    (write-root .kept .1 .0)
 
 same-length-3 : tie.Need-same-length-3
-same-length-3 c = (c .before .before .before .before .before .before .before .before .before .before .before .before .before .before .write-root .kept .1 .1 .0)
+same-length-3 c =
+    let write-root = c .before .before .before .before .before .before .before .before .before .before .before .before .before .before .write-root in
+    (write-root .kept .1 .1 .0)
 
 same-length-4 : tie.Need-same-length-4
-same-length-4 c = (c .before .before .before .before .before .before .before .before .before .before .before .before .before .before .write-root .kept .1 .1 .1 .0)
+same-length-4 c =
+    let write-root = c .before .before .before .before .before .before .before .before .before .before .before .before .before .before .write-root in
+    (write-root .kept .1 .1 .1 .0)
 
 same-length-5 : tie.Need-same-length-5
-same-length-5 c = (c .before .before .before .before .before .before .before .before .before .before .before .before .before .before .write-root .kept .1 .1 .1 .1 .0)
+same-length-5 c =
+    let write-root = c .before .before .before .before .before .before .before .before .before .before .before .before .before .before .write-root in
+    (write-root .kept .1 .1 .1 .1 .0)
 
 same-length-6 : tie.Need-same-length-6
-same-length-6 c = (c .before .before .before .before .before .before .before .before .before .before .before .before .before .before .write-root .kept .1 .1 .1 .1 .1 .0)
+same-length-6 c =
+    let write-root = c .before .before .before .before .before .before .before .before .before .before .before .before .before .before .write-root in
+    (write-root .kept .1 .1 .1 .1 .1 .0)
 
 same-length-7 : tie.Need-same-length-7
-same-length-7 c = (c .before .before .before .before .before .before .before .before .before .before .before .before .before .before .write-root .kept .1 .1 .1 .1 .1 .1 .0)
+same-length-7 c =
+    let write-root = c .before .before .before .before .before .before .before .before .before .before .before .before .before .before .write-root in
+    (write-root .kept .1 .1 .1 .1 .1 .1 .0)
 
 returns-2 : tie.Need-returns-2
 returns-2 c =

@@ -1,4 +1,4 @@
--- `calls::finish::dequeue` meets its contract. The invariant: the entries below i but the first have moved down by one. Assumes nothing.
+-- `calls_finish::dequeue` meets its contract. The invariant: the entries below i but the first have moved down by one. Assumes nothing.
 use Prim.Native.Nat.{_-_, _≤_}
 use native.Mathlib.Omega.{arith}
 use mathlib.Core.Path.{refl}
@@ -54,7 +54,9 @@ mul-queue-3 : tie.Need-mul-queue-3 Inv-loop μ-loop
 mul-queue-3 c = search needs
 
 slice-write-queue-2 : tie.Need-slice-write-queue-2 Inv-loop μ-loop
-slice-write-queue-2 c = omega (arith, (c .before .before .before .pre .within), (c .before .before .before .pre .some), (c .before .loop .inv .2 .size))
+slice-write-queue-2 c =
+    let entry = c .before .before .before in
+    omega (arith, (entry .pre .within), (entry .pre .some), (c .before .loop .inv .2 .size))
 
 sub-control : tie.Need-sub-control Inv-loop μ-loop
 sub-control c = omega (arith, (c .before .before .before .pre .some))

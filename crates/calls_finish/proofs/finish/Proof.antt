@@ -1,4 +1,4 @@
--- `calls::finish::finish` meets its contract: refused by what `admit` answers, or as the inner function does. Assumes nothing.
+-- `calls_finish::finish` meets its contract: refused by what `admit` answers, or as the inner function does. Assumes nothing.
 use mathlib.Core.Path.{refl}
 use Rattle.rules.specs.Refusals.{isFresh}
 use Rattle.laws.specs.Calls.Admission.{outer-refused, outer-ready}
@@ -40,28 +40,44 @@ finish-sound-requires : tie.Need-finish-sound-requires
 finish-sound-requires c κs = outer-ready (c .before .before .before .before .before .before .before .before .admit .ensures) (c .before .before .before .before .before .before .before .if1 .left)
 
 same-length-8 : tie.Need-same-length-8
-same-length-8 c = (c .before .before .before .before .before .before .before .before .before .before .before .before .before .before .finish-sound .kept .0)
+same-length-8 c =
+    let finish-sound = c .before .before .before .before .before .before .before .before .before .before .before .before .before .before .finish-sound in
+    (finish-sound .kept .0)
 
 same-length-9 : tie.Need-same-length-9
-same-length-9 c = (c .before .before .before .before .before .before .before .before .before .before .before .before .before .before .finish-sound .kept .1 .0)
+same-length-9 c =
+    let finish-sound = c .before .before .before .before .before .before .before .before .before .before .before .before .before .before .finish-sound in
+    (finish-sound .kept .1 .0)
 
 same-length-10 : tie.Need-same-length-10
-same-length-10 c = (c .before .before .before .before .before .before .before .before .before .before .before .before .before .before .finish-sound .kept .1 .1 .0)
+same-length-10 c =
+    let finish-sound = c .before .before .before .before .before .before .before .before .before .before .before .before .before .before .finish-sound in
+    (finish-sound .kept .1 .1 .0)
 
 same-length-11 : tie.Need-same-length-11
-same-length-11 c = (c .before .before .before .before .before .before .before .before .before .before .before .before .before .before .finish-sound .kept .1 .1 .1 .0)
+same-length-11 c =
+    let finish-sound = c .before .before .before .before .before .before .before .before .before .before .before .before .before .before .finish-sound in
+    (finish-sound .kept .1 .1 .1 .0)
 
 same-length-12 : tie.Need-same-length-12
-same-length-12 c = (c .before .before .before .before .before .before .before .before .before .before .before .before .before .before .finish-sound .kept .1 .1 .1 .1 .0)
+same-length-12 c =
+    let finish-sound = c .before .before .before .before .before .before .before .before .before .before .before .before .before .before .finish-sound in
+    (finish-sound .kept .1 .1 .1 .1 .0)
 
 same-length-13 : tie.Need-same-length-13
-same-length-13 c = (c .before .before .before .before .before .before .before .before .before .before .before .before .before .before .finish-sound .kept .1 .1 .1 .1 .1 .0)
+same-length-13 c =
+    let finish-sound = c .before .before .before .before .before .before .before .before .before .before .before .before .before .before .finish-sound in
+    (finish-sound .kept .1 .1 .1 .1 .1 .0)
 
 same-length-14 : tie.Need-same-length-14
-same-length-14 c = (c .before .before .before .before .before .before .before .before .before .before .before .before .before .before .finish-sound .kept .1 .1 .1 .1 .1 .1 .0)
+same-length-14 c =
+    let finish-sound = c .before .before .before .before .before .before .before .before .before .before .before .before .before .before .finish-sound in
+    (finish-sound .kept .1 .1 .1 .1 .1 .1 .0)
 
 returns-2 : tie.Need-returns-2
-returns-2 c = (c .before .before .before .before .before .before .before .before .before .before .before .before .before .before .finish-sound .ensures)
+returns-2 c =
+    let finish-sound = c .before .before .before .before .before .before .before .before .before .before .before .before .before .before .finish-sound in
+    (finish-sound .ensures)
 
 pub finish-spec : {M : Type 1} → statement M
 finish-spec =

@@ -1,5 +1,5 @@
--- `calls::finish::leave` meets its contract. Assumes nothing.
-use Rattle.calls_finish.proofs.Leaving.{left}
+-- `calls_finish::leave` meets its contract. Assumes nothing.
+use Rattle.calls_finish.proofs.Leaving.{queue-left}
 use borrow.Author.Needs.{needs}
 use Rattle.calls_finish.proofs.leave.Statement.{statement}
 use Rattle.calls_finish.proofs.leave.Tie as tie
@@ -53,7 +53,7 @@ same-length-4 : tie.Need-same-length-4
 same-length-4 c = search needs
 
 returns : tie.Need-returns
-returns c = left _ _ _ _ _ _ (c .before .before .before .before .dequeue .ensures)
+returns c = queue-left _ _ _ _ _ _ (c .before .before .before .before .dequeue .ensures)
 
 pub leave-spec : {M : Type 1} → statement M
 leave-spec =

@@ -1,4 +1,4 @@
--- `calls::fresh::fresh` meets its contract.
+-- `calls_fresh::fresh` meets its contract.
 -- Assumes nothing.
 use native.Mathlib.Omega.{arith}
 use mathlib.Core.Path.{refl, sym, _∙_}
@@ -61,20 +61,32 @@ zero-requires-6 c κs = search needs
 zero-requires-7 : tie.Need-zero-requires-7
 zero-requires-7 c κs = search needs
 
-refuse-requires-2 : tie.Need-refuse-requires-2
-refuse-requires-2 c κs = search needs
+done-requires : tie.Need-done-requires
+done-requires c κs = search needs
 
 same-length-8 : tie.Need-same-length-8
-same-length-8 c = (c .before .before .before .before .before .before .before .before .before .before .before .before .before .before .before .before .before .before .before .before .before .before .before .before .before .before .before .zero .kept .0)
+same-length-8 c =
+    let zero =
+    c .before .before .before .before .before .before .before .before .before .before .before .before .before .before .before .before .before .before
+    .before .before .before .before .before .before .before .before .before .zero in
+    (zero .kept .0)
 
 same-length-9 : tie.Need-same-length-9
-same-length-9 c = (c .before .before .before .before .before .before .before .before .before .before .before .before .before .before .before .before .before .before .before .before .before .before .before .zero2 .kept .0)
+same-length-9 c =
+    let zero2 =
+    c .before .before .before .before .before .before .before .before .before .before .before .before .before .before .before .before .before .before
+    .before .before .before .before .before .zero2 in
+    (zero2 .kept .0)
 
 same-length-10 : tie.Need-same-length-10
-same-length-10 c = (c .before .before .before .before .before .before .before .before .before .before .before .before .before .before .before .before .before .before .before .zero3 .kept .0)
+same-length-10 c =
+    let zero3 = c .before .before .before .before .before .before .before .before .before .before .before .before .before .before .before .before .before .before .before .zero3 in
+    (zero3 .kept .0)
 
 same-length-11 : tie.Need-same-length-11
-same-length-11 c = (c .before .before .before .before .before .before .before .before .before .before .before .before .before .before .before .zero4 .kept .0)
+same-length-11 c =
+    let zero4 = c .before .before .before .before .before .before .before .before .before .before .before .before .before .before .before .zero4 in
+    (zero4 .kept .0)
 
 same-length-12 : tie.Need-same-length-12
 same-length-12 c = (c .before .before .before .before .before .before .before .before .before .before .before .zero5 .kept .0)
@@ -86,8 +98,34 @@ same-length-14 : tie.Need-same-length-14
 same-length-14 c = (c .before .before .before .zero7 .kept .0)
 
 returns-2 : tie.Need-returns-2
-returns-2 c = let sized = fits-sized _ (sym (c .before .before .before .before .before .before .before .before .before .before .before .before .before .before .before .before .before .before .before .before .before .before .before .before .before .before .before .before .before .before .fits2 .ensures) ∙ not-false _ (c .before .before .before .before .before .before .before .before .before .before .before .before .before .before .before .before .before .before .before .before .before .before .before .before .before .before .before .before .before .if1 .left)) in
-    did-act _ _ FRESH _ (refusal-fresh _ sized) (tables-eq (c .before .before .before .before .before .before .before .before .before .before .before .before .before .before .before .before .before .before .before .before .before .before .before .before .before .before .before .zero .ensures) (c .before .before .before .before .before .before .before .before .before .before .before .before .before .before .before .before .before .before .before .before .before .before .before .zero2 .ensures) (c .before .before .before .before .before .before .before .before .before .before .before .before .before .before .before .before .before .before .before .zero3 .ensures) (c .before .before .before .before .before .before .before .before .before .before .before .before .before .before .before .zero4 .ensures) (c .before .before .before .before .before .before .before .before .before .before .before .zero5 .ensures) (c .before .before .before .before .before .before .before .zero6 .ensures) (c .before .before .before .zero7 .ensures) ∙ fresh-is _ sized) ((c .refuse2 .ensures) ∙ fresh-answer _)
+returns-2 c =
+    let fits2 =
+    c .before .before .before .before .before .before .before .before .before .before .before .before .before .before .before .before .before .before
+    .before .before .before .before .before .before .before .before .before .before .before .before .fits2 in
+    let if1 =
+    c .before .before .before .before .before .before .before .before .before .before .before .before .before .before .before .before .before .before
+    .before .before .before .before .before .before .before .before .before .before .before .if1 in
+    let zero =
+    c .before .before .before .before .before .before .before .before .before .before .before .before .before .before .before .before .before .before
+    .before .before .before .before .before .before .before .before .before .zero in
+    let zero2 =
+    c .before .before .before .before .before .before .before .before .before .before .before .before .before .before .before .before .before .before
+    .before .before .before .before .before .zero2 in
+    let zero3 = c .before .before .before .before .before .before .before .before .before .before .before .before .before .before .before .before .before .before .before .zero3 in
+    let zero4 = c .before .before .before .before .before .before .before .before .before .before .before .before .before .before .before .zero4 in
+    let sized = fits-sized _ (sym (fits2 .ensures) ∙ not-false _ (if1 .left)) in
+    did-act _ _ FRESH _
+    (refusal-fresh _ sized)
+    (tables-eq
+    (zero .ensures)
+    (zero2 .ensures)
+    (zero3 .ensures)
+    (zero4 .ensures)
+    (c .before .before .before .before .before .before .before .before .before .before .before .zero5 .ensures)
+    (c .before .before .before .before .before .before .before .zero6 .ensures)
+    (c .before .before .before .zero7 .ensures)
+    ∙ fresh-is _ sized)
+    ((c .done .ensures) ∙ fresh-answer _)
 
 pub fresh-spec : {M : Type 1} → statement M
 fresh-spec =
@@ -110,7 +148,7 @@ fresh-spec =
     zero-requires-5
     zero-requires-6
     zero-requires-7
-    refuse-requires-2
+    done-requires
     same-length-8
     same-length-9
     same-length-10

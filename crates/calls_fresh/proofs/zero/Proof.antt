@@ -1,4 +1,4 @@
--- `calls::fresh::zero` meets its contract. The invariant: what is passed is 0, and the rest is as it was.
+-- `calls_fresh::zero` meets its contract. The invariant: what is passed is 0, and the rest is as it was.
 -- Assumes nothing.
 use Prim.Native.Nat.{ℕ, _≤_, _-_}
 use native.Mathlib.Omega.{arith}
@@ -37,7 +37,11 @@ loop-less : tie.Need-loop-less Inv-loop μ-loop
 loop-less c = search needs
 
 loop-again : tie.Need-loop-again Inv-loop μ-loop
-loop-again c = (search needs, simp length-set (c .before .loop .inv .1), ap (λ (l : List ℕ). set l (c .before .loop .i) 0) (c .before .loop .inv .2) ∙ fill-more (c .before .loop .i) 0 _ (search needs))
+loop-again c = (
+  search needs,
+  simp length-set (c .before .loop .inv .1),
+  ap (λ (l : List ℕ). set l (c .before .loop .i) 0) (c .before .loop .inv .2) ∙ fill-more (c .before .loop .i) 0 _ (search needs),
+)
 
 same-length : tie.Need-same-length Inv-loop μ-loop
 same-length c = search needs

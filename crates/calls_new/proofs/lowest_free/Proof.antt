@@ -1,4 +1,4 @@
--- `calls::new::lowest_free` meets its contract. The invariant: every cell passed is used.
+-- `calls_new::lowest_free` meets its contract. The invariant: every cell passed is used.
 -- Assumes nothing.
 use Prim.Native.Nat.{ℕ, _≤_, _<_, _-_}
 use native.Mathlib.Omega.{arith}
@@ -26,7 +26,9 @@ shared-slice-read-if1 : tie.Need-shared-slice-read-if1 Inv-loop μ-loop
 shared-slice-read-if1 c = search needs
 
 returns : tie.Need-returns Inv-loop μ-loop
-returns c = lowest-is _ _ (c .before .before .before .loop .inv .0) (c .before .before .before .loop .inv .1) (λ l. (c .if1 .taken))
+returns c =
+    let loop = c .before .before .before .loop in
+    lowest-is _ _ (loop .inv .0) (loop .inv .1) (λ l. (c .if1 .taken))
 
 add-c : tie.Need-add-c Inv-loop μ-loop
 add-c c = search needs

@@ -1,4 +1,4 @@
--- `calls::new::makes` meets its contract: each way out is one law of `newOk`.
+-- `calls_new::makes` meets its contract: each way out is one law of `newOk`.
 -- Assumes nothing.
 use native.Mathlib.Omega.{arith}
 use Rattle.laws.specs.Calls.Cases.{new-object, new-none, new-high, new-plain}

@@ -1,9 +1,9 @@
--- `calls::new::place` meets its contract.
+-- `calls_new::place` meets its contract.
 -- Assumes nothing.
 use native.Mathlib.Omega.{arith}
 use native.Mathlib.Numerals.{add-one}
 use mathlib.Core.Path.{refl}
-use Rattle.laws.specs.Calls.Refusals.{newOk-of}
+use Rattle.laws.specs.Calls.Arguments.{newOk-of}
 use borrow.Author.Needs.{needs}
 use Rattle.calls_new.proofs.place.Statement.{statement}
 use Rattle.calls_new.proofs.place.Tie as tie

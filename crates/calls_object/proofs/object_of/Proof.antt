@@ -1,4 +1,4 @@
--- `calls::object::object_of` meets its contract.
+-- `calls_object::object_of` meets its contract.
 -- Assumes nothing.
 use Prim.Native.Nat.{ℕ}
 use native.Mathlib.Omega.{arith}
@@ -37,7 +37,15 @@ enum-told : tie.Need-enum-told
 enum-told c = search needs
 
 returns-2 : tie.Need-returns-2
-returns-2 c = absurd (omega (arith, (c .before .before .before .before .before .before .before .before .pre .within), rw (c .before .before .before .before .before .index .ensures) at (rw (c .enum-told .given .1) at (c .before .before .of .ensures)), rw (c .before .before .before .before .before .index .ensures) at (c .before .before .before .if1 .left)))
+returns-2 c =
+    let index = c .before .before .before .before .before .index in
+    absurd
+    (omega (
+      arith,
+      (c .before .before .before .before .before .before .before .before .pre .within),
+      rw (index .ensures) at (rw (c .enum-told .given .1) at (c .before .before .of .ensures)),
+      rw (index .ensures) at (c .before .before .before .if1 .left),
+    ))
 
 mul-if2 : tie.Need-mul-if2
 mul-if2 c = omega (arith, (rw (c .before .cell .given .1) at (c .before .before .before .of .ensures)))
@@ -46,11 +54,18 @@ shared-slice-read-if2 : tie.Need-shared-slice-read-if2
 shared-slice-read-if2 c = omega (arith, (rw (c .before .before .cell .given .1) at (c .before .before .before .before .of .ensures)))
 
 returns-3 : tie.Need-returns-3
-returns-3 c = inr (rw (c .before .before .before .before .before .before .before .before .index .ensures) at (c .before .before .before .before .before .before .if1 .left), rw (c .before .before .before .before .before .before .before .before .index .ensures) at (c .if2 .taken), refl)
+returns-3 c =
+    let index = c .before .before .before .before .before .before .before .before .index in
+    inr (rw (index .ensures) at (c .before .before .before .before .before .before .if1 .left), rw (index .ensures) at (c .if2 .taken), refl)
 
 returns-4 : tie.Need-returns-4
-returns-4 c = let is = (rw (c .before .before .before .cell .given .1) at (c .before .before .before .before .before .of .ensures)) in
-    (omega (arith, rw (c .before .before .before .before .before .before .before .before .index .ensures) at is, rw (c .before .before .before .before .before .before .before .before .index .ensures) at (c .before .before .before .before .before .before .if1 .left)), ap (λ (k : ℕ). getD (c .before .before .before .before .before .before .before .before .before .before .before .args .kind .now) k 0) (is .0) ∙ (c .if2 .left), omega (arith, is))
+returns-4 c =
+    let index = c .before .before .before .before .before .before .before .before .index in
+    let is = (rw (c .before .before .before .cell .given .1) at (c .before .before .before .before .before .of .ensures)) in (
+      omega (arith, rw (index .ensures) at is, rw (index .ensures) at (c .before .before .before .before .before .before .if1 .left)),
+      ap (λ (k : ℕ). getD (c .before .before .before .before .before .before .before .before .before .before .before .args .kind .now) k 0) (is .0) ∙ (c .if2 .left),
+      omega (arith, is),
+    )
 
 pub object-of-spec : {M : Type 1} → statement M
 object-of-spec =

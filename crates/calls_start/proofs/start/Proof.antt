@@ -1,4 +1,4 @@
--- `calls::start::start` meets its contract: refused by what `admit` answers, or as the inner function does.
+-- `calls_start::start` meets its contract: refused by what `admit` answers, or as the inner function does.
 -- Assumes nothing.
 use mathlib.Core.Path.{refl}
 use Rattle.rules.specs.Refusals.{isFresh}

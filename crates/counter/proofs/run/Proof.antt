@@ -6,7 +6,7 @@ use mathlib.Core.List.{List}
 use mathlib.Core.Path.{_≡_, refl, sym, _∙_}
 use lib.ListN.{length}
 use Rattle.rules.specs.Heap.{tables, fresh}
-use Rattle.counter.proofs.Running.{Running, begin, further}
+use Rattle.counter.proofs.Running.{Running, running-begin, running-further}
 use borrow.Author.Needs.{needs}
 use Rattle.counter.proofs.run.Statement.{statement}
 use Rattle.counter.proofs.run.Tie as tie
@@ -32,13 +32,15 @@ loop-holds : tie.Need-loop-holds Inv-loop μ-loop
 unfolding fresh
 loop-holds c = (
   record { kind = refl; flags = refl; count = refl; slots = refl; roots = refl; queue = refl; control = refl },
-  rw (c .start .ensures) begin,
+  rw (c .scan-start .ensures) running-begin,
 )
 
 loop-again : tie.Need-loop-again Inv-loop μ-loop
 loop-again c =
-    let k = c .before .before .before .before .before .before .before .before .before .before .serve .kept in
-    let s = c .before .before .before .before .before .before .before .before .before .before .before .before .before .before .before .before .before .before .before .loop .inv .0 in (
+    let loop = c .before .before .before .before .before .before .before .before .before .before .before .before .before .before .before .before .before .before .before .loop in
+    let serve = c .before .before .before .before .before .before .before .before .before .before .serve in
+    let k = serve .kept in
+    let s = loop .inv .0 in (
       record {
         kind = k .0 ∙ s .kind;
         flags = k .1 .0 ∙ s .flags;
@@ -48,7 +50,7 @@ loop-again c =
         queue = k .1 .1 .1 .1 .1 .0 ∙ s .queue;
         control = k .1 .1 .1 .1 .1 .1 .0 ∙ s .control;
       },
-      further _ _ _ _ _ (c .before .before .before .before .before .before .before .before .before .before .before .before .before .before .before .before .before .before .before .loop .inv .1) (c .before .before .before .before .before .before .before .before .before .before .serve .ensures) (c .before .next .given .1),
+      running-further _ _ _ _ _ (loop .inv .1) (serve .ensures) (c .before .next .given .1),
     )
 
 pub run-spec : {M : Type 1} → statement M

@@ -11,7 +11,9 @@ returns-2 : tie.Need-returns-2
 returns-2 c = record { piece = []; answered = tt }
 
 returns-3 : tie.Need-returns-3
-returns-3 c = record { piece = _; answered = c .before .before .before .before .before .before .before .before .before .before .before .before .before .before .serve-piece .ensures }
+returns-3 c =
+    let serve-piece = c .before .before .before .before .before .before .before .before .before .before .before .before .before .before .serve-piece in
+    record { piece = _; answered = serve-piece .ensures }
 
 pub serve-spec : {M : Type 1} → statement M
 serve-spec =

@@ -9,7 +9,7 @@ use mathlib.Core.Path.{_≡_, refl, sym, ap, _∙_}
 use lib.ListN.{length, replicate, length-replicate}
 use Rattle.rules.specs.declared.Answer.{Answer}
 use Rattle.rules.specs.Heap.{Heap, tables, cells, fresh}
-use Rattle.rules.specs.Sound.{Sized}
+use Rattle.rules.specs.Sound.{Sized, Ready}
 use Rattle.rules.specs.Check.{fits, sound}
 use Rattle.rules.specs.Refusals.{Call, number, lowest, conditions, isFresh, refusal, refusalSound}
 use Rattle.rules.specs.Refusals.Call.{FRESH}
@@ -17,7 +17,7 @@ use Rattle.rules.specs.Calls.{Result, answers, refuse, done, act, byRefusal, st
 use Rattle.laws.specs.Lists.Tests.{split}
 use Rattle.laws.specs.Lists.Tables.{getD-zeros}
 use Rattle.laws.specs.Sound.Reflect.{sized-fits}
-use Rattle.laws.specs.Sound.Facts.{Ready, ready-tests, tests-ready}
+use Rattle.laws.specs.Sound.Facts.{ready-tests, tests-ready}
 
 -- ---- refused or done
 

@@ -8,14 +8,14 @@ use mathlib.Core.Path.{_≡_, refl, sym, _∙_, ap}
 use mathlib.Core.Logic.{_≢_}
 use lib.ListN.{length, set, take, drop}
 use lib.Seq.{getD-set-other}
-use Rattle.rules.specs.Heap.{Heap, queued, running, kindOf, slotOf, rootAt, queueAt, Used, setRoot, setSlot, setRunning, setKind, setFlags, setCount, setQueue}
+use Rattle.rules.specs.Heap.{Heap, running, kindOf, slotOf, rootAt, queueAt, Used, setRoot, setSlot, setRunning, setKind, setFlags, setCount, setQueue}
 use Rattle.rules.specs.Release.{Work, start, incref, release}
 use Rattle.rules.specs.Collect.{collect}
 use Rattle.rules.specs.Refusals.{Call, lowestFree, isFresh, refusalSound}
 use Rattle.rules.specs.Refusals.Call.{FRESH, NEW, CLEAR, COPY, LOAD, STORE, COLLECT, START, FINISH}
 use Rattle.rules.specs.Calls.{Result, done, finished, allocate, writeRoot, writeSlot, held, startRun, leaveQueue, finishRun, act}
 use Rattle.rules.specs.Numbers.{leaving}
-use Rattle.rules.specs.Claim.{stood}
+use Rattle.rules.specs.Demand3.{stood}
 use Rattle.laws.specs.Lists.Tests.{clash}
 use Rattle.laws.specs.Sound.But.{SoundBut}
 use Rattle.laws.specs.Reach.Used.{root-used, slot-used}
@@ -26,7 +26,8 @@ use Rattle.laws.specs.Calls.New.{new-sound}
 use Rattle.laws.specs.Calls.Start.{start-sound}
 use Rattle.laws.specs.Calls.Finish.{leave-sound, entries-pop}
 use Rattle.laws.specs.Calls.Outcome.{Outcome, outcome-plain, outcome-advance, outcome-collect}
-use Rattle.laws.specs.Calls.Refusals.{lowest-free, new-facts, clear-facts, copy-facts, load-facts, store-facts, start-facts, finish-facts}
+use Rattle.laws.specs.Calls.Lowest.{lowest-free}
+use Rattle.laws.specs.Calls.NotRefused.{new-facts, clear-facts, copy-facts, load-facts, store-facts, start-facts, finish-facts}
 
 -- a result that reports a call's work
 pub record Performed (h : Heap) (call : Call) (r : Result) : Type 0 where

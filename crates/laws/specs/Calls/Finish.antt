@@ -48,7 +48,7 @@ module _ (h : Heap) (s : SoundBut h []) (some : 1 ≤ queued h) where
 
   -- it is a cell's number plus 1
   pub head-cell : queueAt h 0 ≡ suc (queueAt h 0 - 1)
-  head-cell = nonzero (queueAt h 0) (λ z. omega (arith, s .queue .named, occ-at 0 (entries h) 0 head-inside (head-entry ∙ z)))
+  head-cell = nonzero (queueAt h 0) (λ z. omega (arith, s .queue .noneEmpty, occ-at 0 (entries h) 0 head-inside (head-entry ∙ z)))
     where
       nonzero : (n : ℕ) → n ≢ 0 → n ≡ suc (n - 1)
       nonzero n z = omega arith
@@ -58,9 +58,6 @@ module _ (h : Heap) (s : SoundBut h []) (some : 1 ≤ queued h) where
 
   pub head-object : kindOf h (queueAt h 0 - 1) ≡ 1
   head-object = s .queue .object (queueAt h 0 - 1) head-queued
-
-  pub head-flags : flagsOf h (queueAt h 0 - 1) ≡ 1
-  head-flags = s .queue .wanting (queueAt h 0 - 1) head-queued
 
 module _ (h : Heap) (s : SoundBut h []) (busy : running h ≢ 0) where
   some : 1 ≤ queued h
@@ -81,8 +78,8 @@ module _ (h : Heap) (s : SoundBut h []) (busy : running h ≢ 0) where
   left-is : getD control′ 0 0 ≡ left
   left-is = getD-set-other (set (h .control) 0 left) 1 0 0 0 (λ e. omega arith) ∙ getD-set-same (h .control) 0 left 0 (omega (arith, s .fit .control-size))
 
-  idle : getD control′ 1 0 ≡ 0
-  idle = getD-set-same (set (h .control) 0 left) 1 0 0 (omega (arith, s .fit .control-size, length-set (h .control) 0 left))
+  none-running : getD control′ 1 0 ≡ 0
+  none-running = getD-set-same (set (h .control) 0 left) 1 0 0 (omega (arith, s .fit .control-size, length-set (h .control) 0 left))
 
   -- the old entries are the head and the new ones
   pub entries-pop : entries h ≡ queueAt h 0 ∷ take (getD control′ 0 0) queue′
@@ -118,7 +115,7 @@ module _ (h : Heap) (s : SoundBut h []) (busy : running h ≢ 0) where
   leave-queue = record {
     within = omega (arith, left-is, s .queue .within);
     once = λ x. omega (arith, pop-occ x, s .queue .once x);
-    named = omega (arith, pop-occ 0, s .queue .named);
+    noneEmpty = omega (arith, pop-occ 0, s .queue .noneEmpty);
     object = λ c o. s .queue .object c (omega (arith, pop-occ (suc c)));
     wanting = by-cell head (λ o. absurd (omega (arith, head-gone))) (λ c n o. flags-off c n ∙ s .queue .wanting c (omega (arith, pop-occ (suc c))));
     rest = λ i b. pop-at (h .queue) i ∙ s .queue .rest (suc i) (omega (arith, left-is));
@@ -138,8 +135,8 @@ module _ (h : Heap) (s : SoundBut h []) (busy : running h ≢ 0) where
         shaped = leave-shaped;
         freeCount = s .freeCount;
         queue = leave-queue;
-        runningMost = omega (arith, idle);
-        runs = λ o. absurd (omega (arith, idle));
+        runningMost = omega (arith, none-running);
+        runs = λ o. absurd (omega (arith, none-running));
         counted = λ c. omega (
           arith,
           s .counted c,

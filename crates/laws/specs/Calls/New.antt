@@ -52,7 +52,7 @@ module _ (h : Heap) (s : SoundBut h []) (r k f c : ℕ) (rootOk : r < 64) (rootE
   new-queue = record {
     within = omega (arith, length-set (h .kind) c k, s .queue .within);
     once = s .queue .once;
-    named = s .queue .named;
+    noneEmpty = s .queue .noneEmpty;
     object = by-cell c (λ o. absurd (omega (arith, unreferred))) (λ d n o. kind-off d n ∙ s .queue .object d o);
     wanting = by-cell c (λ o. absurd (omega (arith, unreferred))) (λ d n o. flags-off d n ∙ s .queue .wanting d o);
     rest = s .queue .rest;

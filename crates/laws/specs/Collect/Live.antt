@@ -22,17 +22,12 @@ use Rattle.laws.specs.Lists.Tests.{none-of, and-join, and-left, and-righ
 use Rattle.laws.specs.Lists.Occ.{Stands, occ-append, occ-find, occ-refs, zero-refs}
 use Rattle.laws.specs.Lists.Pigeonhole.{pigeonhole, once-cons, below-cons}
 use Rattle.laws.specs.Lists.Select.{select-only, select-once, select-in}
-use Rattle.laws.specs.Marking.Marks.{Names, Held, Within, Settled}
+use Rattle.laws.specs.Marking.Marks.{Names, Held, Within, ClosedMarks}
 use Rattle.laws.specs.Marking.Closure.{closure-length, closure-keeps, closure-lists, closure-settled, closure-least}
 use Rattle.laws.specs.Sound.But.{SoundBut}
 use Rattle.laws.specs.Release.Decref.{finalizable-kind, finalizable-flags}
 use Rattle.laws.specs.Reach.Used.{holds-occ}
 use Rattle.laws.specs.Reach.Marked.{link-names, names-link, slots-within, reached-length, reached-settled, reached-only, reached-held}
-
--- an object with flags 1
-of-finalizable : (h : Heap) (c : ℕ) → kindOf h c ≡ 1 → flagsOf h c ≡ 1 → finalizable h c ≡ true
-unfolding finalizable
-of-finalizable h c k f = and-join (eq-eqb (kindOf h c) 1 k) (eq-eqb (flagsOf h c) 1 f)
 
 -- marked in the end
 abbrev pub Live : Heap → ℕ → Type 0
@@ -56,13 +51,6 @@ module _ (h : Heap) (s : SoundBut h []) where
       let z : getD (reachedMarks h) c 0 ≡ 0 = eqb-true _ 0 (and-right (finalizable h c) _ (r .1)) in
       record { range = r .0; object = finalizable-kind h c f; flagged = finalizable-flags h c f; unreached = λ x. omega (arith, reached-held h s c x) }
 
-  pub due-in : (c : ℕ) → kindOf h c ≡ 1 → flagsOf h c ≡ 1 → ¬ Reached h c → 1 ≤ occ c (unreachedFinalizable h)
-  unfolding unreachedFinalizable
-  due-in c k f n =
-      let z : getD (reachedMarks h) c 0 ≡ 0 = none-of (getD (reachedMarks h) c 0) (λ m. n (reached-only h s c m)) in
-      select-in (λ d. finalizable h d && eqb (getD (reachedMarks h) d 0) 0) (cells h) c (inside (h .kind) c (omega arith))
-      (and-join (of-finalizable h c k f) (eq-eqb _ 0 z))
-
   pub due-once : (c : ℕ) → occ c (unreachedFinalizable h) ≤ 1
   unfolding unreachedFinalizable
   due-once c = select-once (λ d. finalizable h d && eqb (getD (reachedMarks h) d 0) 0) (cells h) c
@@ -79,12 +67,9 @@ module _ (h : Heap) (s : SoundBut h []) where
   unfolding keptMarks
   kept-length = closure-length (h .slots) (reachedMarks h) (map suc (unreachedFinalizable h)) ∙ reached-length h s
 
-  kept-settled : Settled (h .slots) (keptMarks h)
+  kept-settled : ClosedMarks (h .slots) (keptMarks h)
   unfolding keptMarks
   kept-settled = closure-settled (h .slots) (reachedMarks h) (map suc (unreachedFinalizable h)) (rw (reached-length h s) (slots-within h s)) (reached-settled h s .bits)
-
-  pub live-small : (c : ℕ) → getD (keptMarks h) c 0 ≤ 1
-  live-small c = kept-settled .bits c
 
   pub live-reached : (c : ℕ) → Reached h c → Live h c
   unfolding keptMarks
@@ -168,7 +153,7 @@ module _ (h : Heap) (s : SoundBut h []) where
       joint = entries h ++ map suc (unreachedFinalizable h)
 
       none : occ 0 joint ≡ 0
-      none = omega (arith, occ-append 0 (entries h) (map suc (unreachedFinalizable h)), s .queue .named, zero-refs (unreachedFinalizable h))
+      none = omega (arith, occ-append 0 (entries h) (map suc (unreachedFinalizable h)), s .queue .noneEmpty, zero-refs (unreachedFinalizable h))
 
       sum : (c : ℕ) → occ (suc c) joint ≡ occ (suc c) (entries h) + occ c (unreachedFinalizable h)
       sum c = omega (arith, occ-append (suc c) (entries h) (map suc (unreachedFinalizable h)), occ-refs c (unreachedFinalizable h))

@@ -134,10 +134,6 @@ module _ (h : Heap) (s : SoundBut h []) where
         ap (occ (suc c)) slots2,
       )
 
-  -- no count meets zero in the first round: what comes off a cell was counted there
-  pub unlink-counted : (c : ℕ) → heldBy (h .slots) (garbage h) (suc c) ≤ countOf h c
-  unlink-counted c = omega (arith, slots-occ c, s .counted c)
-
   roots-same : final .roots ≡ h .roots
   roots-same = phase4 .roots ∙ phase3 .roots ∙ phase2 .roots ∙ phase1 .roots
 
@@ -160,7 +156,7 @@ module _ (h : Heap) (s : SoundBut h []) where
   entries-occ c = omega (arith, ap (occ (suc c)) entries-are, occ-append (suc c) (entries h) (map suc due), occ-refs c due)
 
   entries-zero : occ 0 (entries final) ≡ 0
-  entries-zero = omega (arith, ap (occ 0) entries-are, occ-append 0 (entries h) (map suc due), s .queue .named, zero-refs due)
+  entries-zero = omega (arith, ap (occ 0) entries-are, occ-append 0 (entries h) (map suc due), s .queue .noneEmpty, zero-refs due)
 
   -- ---- who is in use
 
@@ -270,7 +266,7 @@ module _ (h : Heap) (s : SoundBut h []) where
   final-queue = record {
     within = omega (arith, queued-is, due-room h s, ap length (phase4 .kind), phase3 .kindLength, ap length kind2);
     once = each;
-    named = entries-zero;
+    noneEmpty = entries-zero;
     object = λ c b. let w = entry-was c b in kind-out c (live-out h s c (w .2)) ∙ w .0;
     wanting = λ c b. let w = entry-was c b in ⊎-elim (λ e. e ∙ w .1) (λ r. r .1) (flags-out c (live-out h s c (w .2)));
     rest = λ i b. ap (λ (l : List ℕ). getD l i 0) queue-same ∙ phase1 .rest i (omega (arith, queued-is)) ∙ s .queue .rest i (omega (arith, queued-is));

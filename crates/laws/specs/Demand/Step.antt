@@ -11,17 +11,18 @@ use lib.Dec.{eqb}
 use borrow.Author.Tests.{not-true}
 use Rattle.rules.specs.Lists.{occ}
 use Rattle.rules.specs.Heap.{Heap, cells, kindOf, entries, fresh}
-use Rattle.rules.specs.Refusals.{Call, isFresh, refusal, refusalSound}
+use Rattle.rules.specs.Sound.{Ready}
+use Rattle.rules.specs.Refusals.{Call, isFresh, refusalSound}
 use Rattle.rules.specs.Refusals.Call.{FRESH, NEW, CLEAR, COPY, LOAD, STORE, COLLECT, START, FINISH}
 use Rattle.rules.specs.Calls.{Result, step, refuse, done}
 use Rattle.rules.specs.Numbers.{freedCells, leaving, TrueNumbers}
-use Rattle.rules.specs.Claim.{stood}
+use Rattle.rules.specs.Demand3.{stood}
 use Rattle.laws.specs.Lists.Tests.{none-of, clash, and-left, and-right}
 use Rattle.laws.specs.Lists.Occ.{occ-empty}
 use Rattle.laws.specs.Lists.Select.{select-only}
 use Rattle.laws.specs.Lists.Tables.{getD-zeros}
 use Rattle.laws.specs.Sound.But.{SoundBut}
-use Rattle.laws.specs.Sound.Facts.{Ready, ready-facts, facts-ready}
+use Rattle.laws.specs.Sound.Facts.{ready-facts, facts-ready}
 use Rattle.laws.specs.Reach.Safe.{Kept}
 use Rattle.laws.specs.Calls.Admission.{step-refused, step-done, step-fresh, fresh-ready, ready-refused}
 use Rattle.laws.specs.Calls.Outcome.{outcome-freed}

@@ -24,10 +24,10 @@ pub fails : (b : Bool) → (b ≡ true → ⊥) → b ≡ false
 fails true n = absurd (n refl)
 fails false n = refl
 
-pub same : (a b : Bool) → (a ≡ true → b ≡ true) → (b ≡ true → a ≡ true) → a ≡ b
-same true b f g = sym (f refl)
-same false true f g = g refl
-same false false f g = refl
+pub tests-agree : (a b : Bool) → (a ≡ true → b ≡ true) → (b ≡ true → a ≡ true) → a ≡ b
+tests-agree true b f g = sym (f refl)
+tests-agree false true f g = g refl
+tests-agree false false f g = refl
 
 pub and-join : {a b : Bool} → a ≡ true → b ≡ true → (a && b) ≡ true
 and-join {a} {b} p q = rw (p, q) refl

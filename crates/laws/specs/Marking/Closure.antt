@@ -14,7 +14,7 @@ use Rattle.rules.specs.Heap.{slotsOf}
 use Rattle.rules.specs.Marking.{mark, markIf, spreadFrom, spread, closure, markFrom}
 use Rattle.laws.specs.Lists.Tables.{inside, getD-zeros, set-cases}
 use Rattle.laws.specs.Lists.Occ.{occ-grows, occ-room}
-use Rattle.laws.specs.Marking.Marks.{Names, Within, Held, Bits, Only, Closed, Settled}
+use Rattle.laws.specs.Marking.Marks.{Names, Within, Held, Bits, Only, Closed, ClosedMarks}
 
 -- ---- references in a table
 
@@ -186,23 +186,23 @@ module _ (slots m table : List ℕ) where
   seeds : Grown Any m (mark m table)
   seeds = mark-grown table m (λ _ _. tt)
 
-  rounds : Grown Any (mark m table) (markFrom slots m table)
+  rounds-grown : Grown Any (mark m table) (markFrom slots m table)
   unfolding markFrom
-  rounds = closure-grown slots (length m) (mark m table) (λ _ _ _ _. tt) (λ _ _. tt)
+  rounds-grown = closure-grown slots (length m) (mark m table) (λ _ _ _ _. tt) (λ _ _. tt)
 
   pub closure-length : length (markFrom slots m table) ≡ length m
-  closure-length = rounds .len ∙ seeds .len
+  closure-length = rounds-grown .len ∙ seeds .len
 
   pub closure-keeps : (d : ℕ) → Held m d → Held (markFrom slots m table) d
-  closure-keeps d h = rounds .keeps d (seeds .keeps d h)
+  closure-keeps d h = rounds-grown .keeps d (seeds .keeps d h)
 
   pub closure-lists : Within (length m) table → (d : ℕ) → Names table d → Held (markFrom slots m table) d
-  closure-lists w d n = rounds .keeps d (mark-lists table m d n (names-within table d w n))
+  closure-lists w d n = rounds-grown .keeps d (mark-lists table m d n (names-within table d w n))
 
-  pub closure-settled : Within (length m) slots → Bits m → Settled slots (markFrom slots m table)
+  pub closure-settled : Within (length m) slots → Bits m → ClosedMarks slots (markFrom slots m table)
   unfolding markFrom
   closure-settled w b = record {
-    bits = rounds .bits (seeds .bits b);
+    bits = rounds-grown .bits (seeds .bits b);
     closed = closure-closed slots (length m) (mark m table) (subst (λ (x : ℕ). Within x slots) (sym (seeds .len)) w) (seeds .bits b) (omega (arith, seeds .len));
   }
 
@@ -211,10 +211,10 @@ module _ (slots m table : List ℕ) where
   closure-least closed o p = let s = mark-grown table m p .only o in closure-grown slots (length m) (mark m table) closed s .only s
 
   -- marks that hold the seeds, are closed, and lie within the closure, are the closure
-  pub closure-unique : Bits m → (m′ : List ℕ) → length m′ ≡ length m → Settled slots m′ → ((d : ℕ) → Held m d → Held m′ d) → ((d : ℕ) → Names table d → Held m′ d)
+  pub closure-unique : Bits m → (m′ : List ℕ) → length m′ ≡ length m → ClosedMarks slots m′ → ((d : ℕ) → Held m d → Held m′ d) → ((d : ℕ) → Names table d → Held m′ d)
       → Only (Held (markFrom slots m table)) m′ → m′ ≡ markFrom slots m table
-  closure-unique b m′ e s k l o = bits-equal m′ (markFrom slots m table) (e ∙ sym closure-length) (s .bits) (rounds .bits (seeds .bits b)) o (closure-least (s .closed) k l)
+  closure-unique b m′ e s k l o = bits-equal m′ (markFrom slots m table) (e ∙ sym closure-length) (s .bits) (rounds-grown .bits (seeds .bits b)) o (closure-least (s .closed) k l)
 
 -- no mark at all is settled
-pub zeros-settled : {slots : List ℕ} (n : ℕ) → Settled slots (replicate n 0)
+pub zeros-settled : {slots : List ℕ} (n : ℕ) → ClosedMarks slots (replicate n 0)
 zeros-settled n = record { bits = λ d. omega (arith, getD-zeros n d); closed = λ c d h _. absurd (omega (arith, getD-zeros n c)) }

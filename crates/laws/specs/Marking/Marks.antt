@@ -42,7 +42,7 @@ abbrev pub Closed : List ℕ → (ℕ → Type 0) → Type 0
 Closed slots P = (c d : ℕ) → P c → Names (slotsOf slots c) d → P d
 
 -- marks of 0 and 1 that are closed under slots
-pub record Settled (slots m : List ℕ) : Type 0 where
+pub record ClosedMarks (slots m : List ℕ) : Type 0 where
   pub bits : Bits m
   pub closed : Closed slots (Held m)
 

@@ -1,4 +1,4 @@
--- Laws of the scan: it serves every noted cell, and leaves none noted. So marking 16 deep and then scanning marks what `markFrom` marks.
+-- Laws of the scan: it serves every noted cell, and leaves none noted. So marking to any depth and then scanning marks what `markFrom` marks.
 -- Assumes nothing.
 use Prim.Native.Nat.{ℕ, zero, suc, _+_, _-_, _≤_, _<_}
 use native.Mathlib.Decide.{decLt, ℕ-discrete}
@@ -15,7 +15,7 @@ use Rattle.rules.specs.Lists.{occ}
 use Rattle.rules.specs.Marking.{markFrom}
 use Rattle.rules.specs.Depth.{markCell, markSlot, markTable, firstFrom, notedBetween, firstOf, nextNoted, scan, scanAll}
 use Rattle.laws.specs.Lists.Tables.{inside}
-use Rattle.laws.specs.Marking.Marks.{Within, Slots, Held, Bits, Closed, Settled, Marked, NoneNoted, FirstNoted, NextNoted}
+use Rattle.laws.specs.Marking.Marks.{Within, Slots, Held, Bits, Closed, ClosedMarks, Marked, NoneNoted, FirstNoted, NextNoted}
 use Rattle.laws.specs.Lists.Occ.{occ-room}
 use Rattle.laws.specs.Marking.Closure.{within-append, closure-settled, closure-keeps, closure-lists, closure-unique}
 use Rattle.laws.specs.Marking.Steps.{marked-none, marked-scanned, each-append, table-step, table-length, turn-length, turn-marked, turn-less}
@@ -85,85 +85,86 @@ next-law m from h =
 
 -- ---- the scan
 
-pub scan-end : (k : ℕ) (slots m : List ℕ) (c : ℕ) → length m ≤ c → scan k slots m c ≡ m
+pub scan-end : (depth k : ℕ) (slots m : List ℕ) (c : ℕ) → length m ≤ c → scan depth k slots m c ≡ m
 unfolding scan
-scan-end zero slots m c h = refl
-scan-end (suc k) slots m c h = rw (le-ltb c (length m) h) refl
+scan-end depth zero slots m c h = refl
+scan-end depth (suc k) slots m c h = rw (le-ltb c (length m) h) refl
 
-pub scan-turn : (k : ℕ) (slots m : List ℕ) (c : ℕ) → c < length m
-    → scan (suc k) slots m c ≡ scan k slots (markCell 16 slots m c) (nextNoted (markCell 16 slots m c) c)
+pub scan-turn : (depth k : ℕ) (slots m : List ℕ) (c : ℕ) → c < length m
+    → scan depth (suc k) slots m c ≡ scan depth k slots (markCell depth slots m c) (nextNoted (markCell depth slots m c) c)
 unfolding scan
-scan-turn k slots m c h = rw (lt-ltb c (length m) h) refl
+scan-turn depth k slots m c h = rw (lt-ltb c (length m) h) refl
 
 -- while a cell is noted, not all are marked
 pub turns-left : (m : List ℕ) (c : ℕ) → NextNoted m c → c < length m → 0 < length m - occ 1 m
 turns-left m c next h = omega (arith, occ-room 1 m c h (λ e. omega (arith, next .found h)))
 
 -- enough turns serve every noted cell
-pub record Scanned (slots m m′ : List ℕ) : Type 0 where
+pub record NotedServed (slots m m′ : List ℕ) : Type 0 where
   pub marked : Marked slots [] m m′
   pub none : NoneNoted m′
   pub len : length m′ ≡ length m
 
-scanned : {slots : List ℕ} (m₀ : List ℕ) (k : ℕ) (m : List ℕ) (c : ℕ) → Slots slots (length m) → NextNoted m c → length m - occ 1 m ≤ k
-    → Marked slots [] m₀ m → length m ≡ length m₀ → Scanned slots m₀ (scan k slots m c)
-scanned {slots} m₀ zero m c s next l a e = elim (decLt c (length m)) [
+scanned : {slots : List ℕ} (depth : ℕ) → 0 < depth → (m₀ : List ℕ) (k : ℕ) (m : List ℕ) (c : ℕ) → Slots slots (length m) → NextNoted m c → length m - occ 1 m ≤ k
+    → Marked slots [] m₀ m → length m ≡ length m₀ → NotedServed slots m₀ (scan depth k slots m c)
+scanned {slots} depth deep m₀ zero m c s next l a e = elim (decLt c (length m)) [
   | yes h ↦ absurd (omega (arith, turns-left m c next h))
-  | no f ↦ rw (scan-end zero slots m c (omega arith)) (record { marked = a; none = next .none (omega arith); len = e })
+  | no f ↦ rw (scan-end depth zero slots m c (omega arith)) (record { marked = a; none = next .none (omega arith); len = e })
 ]
-scanned {slots} m₀ (suc k) m c s next l a e = elim (decLt c (length m)) [
+scanned {slots} depth deep m₀ (suc k) m c s next l a e = elim (decLt c (length m)) [
   | yes h ↦
-      let m′ : List ℕ = markCell 16 slots m c in
-      let len : length m′ ≡ length m = turn-length m m′ c s next h refl in
-      rw (scan-turn k slots m c h)
-      (scanned m₀ k m′ (nextNoted m′ c) (rw len s) (next-law m′ c (omega arith))
-      (omega (arith, turn-less m m′ c s next h refl)) (turn-marked m m′ c s next h refl a) (len ∙ e))
-  | no f ↦ rw (scan-end (suc k) slots m c (omega arith)) (record { marked = a; none = next .none (omega arith); len = e })
+      let m′ : List ℕ = markCell depth slots m c in
+      let len : length m′ ≡ length m = turn-length depth deep m m′ c s next h refl in
+      rw (scan-turn depth k slots m c h)
+      (scanned depth deep m₀ k m′ (nextNoted m′ c) (rw len s) (next-law m′ c (omega arith))
+      (omega (arith, turn-less depth deep m m′ c s next h refl)) (turn-marked depth deep m m′ c s next h refl a) (len ∙ e))
+  | no f ↦ rw (scan-end depth (suc k) slots m c (omega arith)) (record { marked = a; none = next .none (omega arith); len = e })
 ]
 
-pub scan-law : {slots : List ℕ} (m m′ : List ℕ) → Slots slots (length m) → m′ ≡ scanAll slots m → Scanned slots m m′
+pub scan-law : {slots : List ℕ} (depth : ℕ) → 0 < depth → (m m′ : List ℕ) → Slots slots (length m) → m′ ≡ scanAll depth slots m → NotedServed slots m m′
 unfolding scanAll
-scan-law m m′ s e = rw e (scanned m (length m) m (nextNoted m 0) s (next-law m 0 (omega arith)) (omega arith) marked-none refl)
+scan-law depth deep m m′ s e = rw e (scanned depth deep m (length m) m (nextNoted m 0) s (next-law m 0 (omega arith)) (omega arith) marked-none refl)
 
 -- ---- the scan on its way: what began from marks m₀ goes on from marks m and the next cell c
 
-pub record Scanning (slots m₀ m : List ℕ) (c : ℕ) : Type 0 where
+pub record Scanning (depth : ℕ) (slots m₀ m : List ℕ) (c : ℕ) : Type 0 where
   pub len : length m ≡ length m₀
   pub next : NextNoted m c
   pub turns : ℕ
   pub enough : length m - occ 1 m ≤ turns
-  pub left : scan turns slots m c ≡ scanAll slots m₀
+  pub left : scan depth turns slots m c ≡ scanAll depth slots m₀
 
-pub scanning-begin : {slots : List ℕ} (m : List ℕ) (c : ℕ) → c ≡ nextNoted m 0 → Scanning slots m m c
+pub scanning-begin : {depth : ℕ} {slots : List ℕ} (m : List ℕ) (c : ℕ) → c ≡ nextNoted m 0 → Scanning depth slots m m c
 unfolding scanAll
-scanning-begin {slots} m c e = rw e (record { len = refl; next = next-law m 0 (omega arith); turns = length m; enough = omega arith; left = refl })
+scanning-begin m c e = rw e (record { len = refl; next = next-law m 0 (omega arith); turns = length m; enough = omega arith; left = refl })
 
-module _ {slots m₀ : List ℕ} (m m′ : List ℕ) {c : ℕ} (s : Slots slots (length m)) (a : Scanning slots m₀ m c) (h : c < length m) (e : m′ ≡ markCell 16 slots m c) where
+module _ {depth : ℕ} (deep : 0 < depth) {slots m₀ : List ℕ} (m m′ : List ℕ) {c : ℕ} (s : Slots slots (length m)) (a : Scanning depth slots m₀ m c) (h : c < length m)
+    (e : m′ ≡ markCell depth slots m c) where
   pub scanning-less : length m′ - occ 1 m′ < length m - occ 1 m
-  scanning-less = turn-less m m′ c s (a .next) h e
+  scanning-less = turn-less depth deep m m′ c s (a .next) h e
 
-  pub scanning-turn : (c′ : ℕ) → c′ ≡ nextNoted m′ c → Scanning slots m₀ m′ c′
+  pub scanning-turn : (c′ : ℕ) → c′ ≡ nextNoted m′ c → Scanning depth slots m₀ m′ c′
   scanning-turn c′ f = go (a .turns) (a .enough) (a .left)
     where
-      go : (k : ℕ) → length m - occ 1 m ≤ k → scan k slots m c ≡ scanAll slots m₀ → Scanning slots m₀ m′ c′
+      go : (k : ℕ) → length m - occ 1 m ≤ k → scan depth k slots m c ≡ scanAll depth slots m₀ → Scanning depth slots m₀ m′ c′
       go zero l p = absurd (omega (arith, turns-left m c (a .next) h))
       go (suc k) l p =
-          let len : length m′ ≡ length m = turn-length m m′ c s (a .next) h e in
+          let len : length m′ ≡ length m = turn-length depth deep m m′ c s (a .next) h e in
           record {
             len = len ∙ a .len;
             next = rw f (next-law m′ c (omega arith));
             turns = k;
             enough = omega (arith, scanning-less);
-            left = rw (f, e) (sym (scan-turn k slots m c h) ∙ p);
+            left = rw (f, e) (sym (scan-turn depth k slots m c h) ∙ p);
           }
 
-pub scanning-done : {slots m₀ : List ℕ} (m : List ℕ) (c : ℕ) → Scanning slots m₀ m c → length m ≤ c → m ≡ scanAll slots m₀
-scanning-done {slots} m c a h = sym (scan-end (a .turns) slots m c h) ∙ a .left
+pub scanning-done : {depth : ℕ} {slots m₀ : List ℕ} (m : List ℕ) (c : ℕ) → Scanning depth slots m₀ m c → length m ≤ c → m ≡ scanAll depth slots m₀
+scanning-done {depth} {slots} m c a h = sym (scan-end depth (a .turns) slots m c h) ∙ a .left
 
 -- ---- "The depth shows in no answer"
 
 -- where none is noted, marking from settled marks and a table has come to the rules' marks
-pub marked-closure : {slots : List ℕ} (table m m′ : List ℕ) → Slots slots (length m) → Within (length m) table → Settled slots m
+pub marked-closure : {slots : List ℕ} (table m m′ : List ℕ) → Slots slots (length m) → Within (length m) table → ClosedMarks slots m
     → length m′ ≡ length m → Marked slots table m m′ → NoneNoted m′ → m′ ≡ markFrom slots m table
 marked-closure {slots} table m m′ s w settled len a none =
     let bits : Bits m′ = λ d. let two : getD m′ d 0 ≤ 2 = a .states (λ x. omega (arith, settled .bits x)) d in omega (arith, lt-of-le-ne two (none d)) in
@@ -171,19 +172,19 @@ marked-closure {slots} table m m′ s w settled len a none =
     closure-unique slots m table (settled .bits) m′ len (record { bits = bits; closed = closed }) (a .held) (a .lists)
     (a .least (markFrom slots m table) (closure-settled slots m table (s .within) (settled .bits) .closed) (closure-keeps slots m table) (closure-lists slots m table w))
 
--- from settled marks, whatever the depth
-module _ {slots : List ℕ} (depth : ℕ) (m : List ℕ) (s : Slots slots (length m)) (settled : Settled slots m) where
-  pub depth-unseen : (table : List ℕ) → Within (length m) table → scanAll slots (markTable depth slots m table) ≡ markFrom slots m table
+-- from settled marks, whatever the depth of marking, and of the scan if that marks anything
+module _ {slots : List ℕ} (depth again : ℕ) (deep : 0 < again) (m : List ℕ) (s : Slots slots (length m)) (settled : ClosedMarks slots m) where
+  pub depth-unseen : (table : List ℕ) → Within (length m) table → scanAll again slots (markTable depth slots m table) ≡ markFrom slots m table
   depth-unseen table w =
       let len = table-length table m depth s w in
-      let r = scan-law (markTable depth slots m table) (scanAll slots (markTable depth slots m table)) (rw len s) refl in
-      marked-closure table m (scanAll slots (markTable depth slots m table)) s w settled (r .len ∙ len)
+      let r = scan-law again deep (markTable depth slots m table) (scanAll again slots (markTable depth slots m table)) (rw len s) refl in
+      marked-closure table m (scanAll again slots (markTable depth slots m table)) s w settled (r .len ∙ len)
       (marked-scanned (table-step table depth s w refl) (r .marked)) (r .none)
 
   -- the same of two tables, one after the other
   pub depth-unseen-two : (roots queue : List ℕ) → Within (length m) roots → Within (length m) queue
-      → scanAll slots (markTable depth slots (markTable depth slots m roots) queue) ≡ markFrom slots m (roots ++ queue)
+      → scanAll again slots (markTable depth slots (markTable depth slots m roots) queue) ≡ markFrom slots m (roots ++ queue)
   unfolding markTable
   depth-unseen-two roots queue w v =
-      ap (scanAll slots) (sym (each-append (markSlot depth slots) roots queue m))
+      ap (scanAll again slots) (sym (each-append (markSlot depth slots) roots queue m))
       ∙ depth-unseen (roots ++ queue) (within-append roots queue w v)

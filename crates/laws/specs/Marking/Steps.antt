@@ -13,7 +13,7 @@ use lib.ListN.{length, getD, set, take, length-set}
 use lib.Seq.{getD-set-same, take-all}
 use Rattle.rules.specs.Lists.{occ}
 use Rattle.rules.specs.Heap.{slotsOf}
-use Rattle.rules.specs.Depth.{each, toMark, named, markCell, markSlot, markTable}
+use Rattle.rules.specs.Depth.{each, toMark, ifUnmarked, markCell, markSlot, markTable}
 use Rattle.laws.specs.Lists.Tables.{slot-entry, slots-length, set-cases}
 use Rattle.laws.specs.Lists.Occ.{occ-grows, occ-length}
 use Rattle.laws.specs.Marking.Marks.{Names, Within, Slots, Held, Marked, NextNoted}
@@ -132,11 +132,11 @@ cell-deep slots m c (suc depth) f = let e : suc depth - 1 ≡ depth = omega arit
 -- by what the test says of the reference
 module _ (slots m : List ℕ) (depth r : ℕ) {b : Bool} (e : b ≡ toMark m r) where
   pub slot-cell : b ≡ true → markSlot depth slots m r ≡ markCell depth slots m (r - 1)
-  unfolding markSlot named
+  unfolding markSlot ifUnmarked
   slot-cell t = rw (sym e ∙ t) refl
 
   pub slot-none : b ≡ false → markSlot depth slots m r ≡ m
-  unfolding markSlot named
+  unfolding markSlot ifUnmarked
   slot-none t = rw (sym e ∙ t) refl
 
 -- what it says
@@ -176,10 +176,10 @@ module _ (slots : List ℕ) (n : ℕ) where
       let rest = each-marked step s table (step m r) (one .1 ∙ e) (λ i. w (suc i)) in
       (marked-append (one .0) (rest .0), rest .1 ∙ one .1)
 
-  named-marked : (step : List ℕ → ℕ → List ℕ) → FromCell step → FromReference (named step)
-  unfolding named toMark
-  named-marked step s m zero e h = (marked-empty 0 refl, refl)
-  named-marked step s m (suc c) e h = let i : suc c - 1 ≡ c = omega arith in rw i (go (eqb (getD m c 0) 1) refl)
+  reference-marked : (step : List ℕ → ℕ → List ℕ) → FromCell step → FromReference (ifUnmarked step)
+  unfolding ifUnmarked toMark
+  reference-marked step s m zero e h = (marked-empty 0 refl, refl)
+  reference-marked step s m (suc c) e h = let i : suc c - 1 ≡ c = omega arith in rw i (go (eqb (getD m c 0) 1) refl)
     where
       go : (b : Bool) → eqb (getD m c 0) 1 ≡ b → Steps slots (suc c ∷ []) m (cond (not b) (step m c) m)
       go true t = (marked-seen (suc c) (let i : suc c - 1 ≡ c = omega arith in rw i (λ z. omega (arith, eqb-true (getD m c 0) 1 t))), refl)
@@ -187,8 +187,8 @@ module _ (slots : List ℕ) (n : ℕ) where
 
   module _ (s : Slots slots n) where
     -- the slots of a cell that is marked
-    inner : (step : List ℕ → ℕ → List ℕ) → FromCell step → (m : List ℕ) (c : ℕ) → length m ≡ n → Steps slots (slotsOf slots c) (set m c 1) (each (named step) (set m c 1) (slotsOf slots c))
-    inner step f m c e = each-marked (named step) (named-marked step f) (slotsOf slots c) (set m c 1) (length-set m c 1 ∙ e) (within-slots slots c (s .within))
+    inner : (step : List ℕ → ℕ → List ℕ) → FromCell step → (m : List ℕ) (c : ℕ) → length m ≡ n → Steps slots (slotsOf slots c) (set m c 1) (each (ifUnmarked step) (set m c 1) (slotsOf slots c))
+    inner step f m c e = each-marked (ifUnmarked step) (reference-marked step f) (slotsOf slots c) (set m c 1) (length-set m c 1 ∙ e) (within-slots slots c (s .within))
 
     cell-marked : (depth : ℕ) → FromCell (markCell depth slots)
     unfolding markCell
@@ -203,7 +203,7 @@ module _ (slots : List ℕ) (n : ℕ) where
 
     table-marked : (depth : ℕ) (table m : List ℕ) → length m ≡ n → Within n table → Steps slots table m (markTable depth slots m table)
     unfolding markTable markSlot
-    table-marked depth = each-marked (named (markCell depth slots)) (named-marked (markCell depth slots) (cell-marked depth))
+    table-marked depth = each-marked (ifUnmarked (markCell depth slots)) (reference-marked (markCell depth slots) (cell-marked depth))
 
 pub table-length : {slots : List ℕ} (table m : List ℕ) (depth : ℕ) → Slots slots (length m) → Within (length m) table
     → length (markTable depth slots m table) ≡ length m
@@ -214,21 +214,22 @@ pub table-step : {slots m m′ : List ℕ} (table : List ℕ) (depth : ℕ) → 
     → m′ ≡ markTable depth slots m table → Marked slots table m m′
 table-step {slots} {m} {m′} table depth s w e = rw e (table-marked slots (length m) s depth table m refl w .0)
 
--- a turn of the scan: the noted cell c is marked, 16 deep
-module _ {slots : List ℕ} (m m′ : List ℕ) (c : ℕ) (s : Slots slots (length m)) (next : NextNoted m c) (h : c < length m) (e : m′ ≡ markCell 16 slots m c) where
+-- a turn of the scan: the noted cell c is marked, nested to some depth
+module _ {slots : List ℕ} (depth : ℕ) (deep : 0 < depth) (m m′ : List ℕ) (c : ℕ) (s : Slots slots (length m)) (next : NextNoted m c) (h : c < length m)
+    (e : m′ ≡ markCell depth slots m c) where
   unmarked : getD m c 0 ≡ 1 → ⊥
   unmarked z = omega (arith, next .found h)
 
-  step : Steps slots (suc c ∷ []) m m′
-  step = rw e (cell-marked slots (length m) s 16 m c refl h unmarked)
+  served-step : Steps slots (suc c ∷ []) m m′
+  served-step = rw e (cell-marked slots (length m) s depth m c refl h unmarked)
 
   pub turn-length : length m′ ≡ length m
-  turn-length = step .1
+  turn-length = served-step .1
 
   pub turn-marked : {m₀ : List ℕ} → Marked slots [] m₀ m → Marked slots [] m₀ m′
-  turn-marked a = marked-again a (held-one m c (omega (arith, next .found h))) (step .0)
+  turn-marked a = marked-again a (held-one m c (omega (arith, next .found h))) (served-step .0)
 
   -- one marked cell more, at least
   pub turn-less : length m′ - occ 1 m′ < length m - occ 1 m
   turn-less =
-      omega (arith, occ-length 1 m′, step .1, occ-grows 1 m m′ (step .1) (step .0 .kept) c h unmarked (rw e (cell-held slots (length m) s 16 m c refl h (omega arith))))
+      omega (arith, occ-length 1 m′, served-step .1, occ-grows 1 m m′ (served-step .1) (served-step .0 .kept) c h unmarked (rw e (cell-held slots (length m) s depth m c refl h deep)))

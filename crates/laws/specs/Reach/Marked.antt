@@ -14,8 +14,8 @@ use Rattle.rules.specs.Reach.Chain.{root, entry, further}
 use Rattle.rules.specs.Collect.{reachedMarks}
 use Rattle.laws.specs.Lists.Tables.{inside, getD-zeros, slot-entry, slots-most}
 use Rattle.laws.specs.Lists.Occ.{occ-at}
-use Rattle.laws.specs.Sound.But.{SoundBut, named}
-use Rattle.laws.specs.Marking.Marks.{Names, Within, Held, Only, Closed, Settled}
+use Rattle.laws.specs.Sound.But.{SoundBut, referred-used}
+use Rattle.laws.specs.Marking.Marks.{Names, Within, Held, Only, Closed, ClosedMarks}
 use Rattle.laws.specs.Marking.Closure.{names-append, names-left, names-right, within-append, closure-length, closure-lists, closure-settled, closure-least, zeros-settled}
 
 -- ---- links and chains
@@ -47,7 +47,7 @@ module _ (h : Heap) (s : SoundBut h []) where
     where
       go : (r : ℕ) → getD table i 0 ≡ r → r ≤ cells h
       go zero e = omega arith
-      go (suc c) e = inside (h .kind) c (named h [] s c (omega (arith, counted c, occ-at (suc c) table i (inside table i (omega arith)) e)))
+      go (suc c) e = inside (h .kind) c (referred-used h [] s c (omega (arith, counted c, occ-at (suc c) table i (inside table i (omega arith)) e)))
 
   pub slots-within : Within (cells h) (h .slots)
   slots-within = table-within (h .slots) (λ c. omega arith)
@@ -62,7 +62,7 @@ module _ (h : Heap) (s : SoundBut h []) where
   unfolding reachedMarks
   reached-length = closure-length (h .slots) (replicate (cells h) 0) (h .roots ++ entries h) ∙ length-replicate (cells h) 0
 
-  pub reached-settled : Settled (h .slots) (reachedMarks h)
+  pub reached-settled : ClosedMarks (h .slots) (reachedMarks h)
   unfolding reachedMarks
   reached-settled = closure-settled (h .slots) (replicate (cells h) 0) (h .roots ++ entries h) (rw length-replicate slots-within) (zeros-settled {slots = h .slots} (cells h) .bits)
 

@@ -9,7 +9,7 @@ use mathlib.Core.Path.{_≡_, _∙_}
 use lib.ListN.{getD}
 use Rattle.rules.specs.Heap.{Heap, slotOf, entries, Used}
 use Rattle.rules.specs.Reach.{Link, Chain}
-use Rattle.rules.specs.Claim.{Frees}
+use Rattle.rules.specs.Demand3.{Frees}
 use Rattle.laws.specs.Sound.But.{SoundBut}
 use Rattle.laws.specs.Reach.Used.{link-used, chain-used}
 

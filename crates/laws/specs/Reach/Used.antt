@@ -10,7 +10,7 @@ use Rattle.rules.specs.Reach.{Holds, Link, Chain, Reached}
 use Rattle.rules.specs.Reach.Chain.{root, entry, further}
 use Rattle.laws.specs.Lists.Tables.{inside}
 use Rattle.laws.specs.Lists.Occ.{occ-at}
-use Rattle.laws.specs.Sound.But.{SoundBut, named}
+use Rattle.laws.specs.Sound.But.{SoundBut, referred-used}
 
 -- a reference that stands in a table is counted there
 pub holds-occ : (table : List ℕ) (i c : ℕ) → Holds table i c → 1 ≤ occ (suc c) table
@@ -18,13 +18,13 @@ holds-occ table i c e = occ-at (suc c) table i (inside table i (omega arith)) e
 
 module _ (h : Heap) (extra : List ℕ) (s : SoundBut h extra) where
   pub root-used : (i c : ℕ) → Holds (h .roots) i c → Used h c
-  root-used i c e = named h extra s c (omega (arith, holds-occ (h .roots) i c e))
+  root-used i c e = referred-used h extra s c (omega (arith, holds-occ (h .roots) i c e))
 
   pub slot-used : (i c : ℕ) → Holds (h .slots) i c → Used h c
-  slot-used i c e = named h extra s c (omega (arith, holds-occ (h .slots) i c e))
+  slot-used i c e = referred-used h extra s c (omega (arith, holds-occ (h .slots) i c e))
 
   pub entry-used : (i c : ℕ) → Holds (entries h) i c → Used h c
-  entry-used i c e = named h extra s c (omega (arith, holds-occ (entries h) i c e))
+  entry-used i c e = referred-used h extra s c (omega (arith, holds-occ (entries h) i c e))
 
   pub link-used : (p c : ℕ) → Link (h .slots) p c → Used h c
   link-used p c k = slot-used (8 * p + k .slot) c (k .holds)

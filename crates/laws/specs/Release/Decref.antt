@@ -45,21 +45,21 @@ listed-below w serving done held b c o = elim (ℕ-discrete (occ c done) 0) [
 
 module _ (w : Work) (serving done held : List ℕ) (c : ℕ) (b : Balanced w serving done (suc c ∷ held)) where
   -- no `decref` meets a count of zero: the reference that is due is counted, so that the guard is never needed
-  pub counted : 1 ≤ countOf (w .heap) c
-  counted = omega (arith, b .balance c, occ-here (suc c) held)
+  pub count-above-zero : 1 ≤ countOf (w .heap) c
+  count-above-zero = omega (arith, b .balance c, occ-here (suc c) held)
 
   pub in-range : c < length (w .heap .kind)
-  in-range = omega (arith, inside (w .heap .count) c counted)
+  in-range = omega (arith, inside (w .heap .count) c count-above-zero)
 
   pub is-used : 1 ≤ kindOf (w .heap) c
-  is-used = elim (ℕ-discrete (kindOf (w .heap) c) 0) [ yes e ↦ omega (arith, b .free c e, counted) | no n ↦ omega arith ]
+  is-used = elim (ℕ-discrete (kindOf (w .heap) c) 0) [ yes e ↦ omega (arith, b .free c e, count-above-zero) | no n ↦ omega arith ]
 
   -- it is not among the cells freed, nor on the work list, where counts are 0
   unfreed : occ c done ≡ 0
   unfreed = none-of (occ c done) (λ o. omega (arith, b .gone c o, is-used))
 
   unlisted : occ c serving + occ c (w .pending) ≡ 0
-  unlisted = none-of (occ c serving + occ c (w .pending)) (λ o. omega (arith, b .dead c o, counted))
+  unlisted = none-of (occ c serving + occ c (w .pending)) (λ o. omega (arith, b .dead c o, count-above-zero))
 
   -- so the work list has room for it
   pub work-room : length done + length (serving ++ w .pending) < length (w .heap .kind)
@@ -195,7 +195,7 @@ module _ (w : Work) (serving done held : List ℕ) (c : ℕ) (b : Balanced w ser
 
   lower-balanced : (n : ℕ) → countOf (w .heap) c ≡ n → Balanced (lower w c n) serving done held
   unfolding lower
-  lower-balanced zero e = absurd (omega (arith, counted w serving done held c b))
+  lower-balanced zero e = absurd (omega (arith, count-above-zero w serving done held c b))
   lower-balanced (suc zero) e = go (finalizable (w .heap) c) refl
     where
       go : (f : Bool) → finalizable (w .heap) c ≡ f → Balanced (refzero f w c) serving done held

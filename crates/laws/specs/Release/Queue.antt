@@ -52,7 +52,7 @@ module _ (kind flags queue control : List ℕ) (ok : QueueOk kind flags queue co
         record {
           within = omega (arith, push-length, room);
           once = by-cell (suc c) (omega arith) (λ x m. omega (arith, other x m, ok .once x));
-          named = other 0 (λ z. omega arith) ∙ ok .named;
+          noneEmpty = other 0 (λ z. omega arith) ∙ ok .noneEmpty;
           object = by-cell c (λ o. k) (λ d m o. ok .object d (omega (arith, other (suc d) (λ z. m (omega arith)))));
           wanting = by-cell c (λ o. f) (λ d m o. ok .wanting d (omega (arith, other (suc d) (λ z. m (omega arith)))));
           rest = λ i h. getD-set-other queue q i (suc c) 0 (λ z. omega (arith, push-length)) ∙ ok .rest i (omega (arith, push-length));

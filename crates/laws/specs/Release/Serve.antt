@@ -54,7 +54,7 @@ finish w done held c b =
       queue = record {
         within = omega (arith, length-set k c 0);
         once = b .queue .once;
-        named = b .queue .named;
+        noneEmpty = b .queue .noneEmpty;
         object = by-cell c (λ o. omega (arith, b .balance c)) (λ d m o. kind d m ∙ b .queue .object d o);
         wanting = by-cell c (λ o. omega (arith, b .balance c)) (λ d m o. getD-set-other f c d 0 0 m ∙ b .queue .wanting d o);
         rest = b .queue .rest;
@@ -149,7 +149,8 @@ module _ (w : Work) (done outside : List ℕ) (c : ℕ) (rest : List ℕ) (e : w
   unfolding serve
   serve-advance =
       let f : Frame w (served w c rest) = served-frame w c rest in
-      let q : Advanced (withPending w rest) (served w c rest) [] = decrefs-advance (withPending w rest) (c ∷ []) done (slotsOf (w .heap .slots) c) (emptied (w .heap .slots) c ++ outside) serve-begin in
+      let q : Advanced (withPending w rest) (served w c rest) [] =
+      decrefs-advance (withPending w rest) (c ∷ []) done (slotsOf (w .heap .slots) c) (emptied (w .heap .slots) c ++ outside) serve-begin in
       let r : Advance (served w c rest) (serve w c rest) (c ∷ []) [] =
       retire-advance (served w c rest) c (omega (arith, ap (λ (l : List ℕ). getD l c 0) (f .kind), serve-used)) in (
         q .0 ++ [],

@@ -40,7 +40,7 @@ entriesOf queue control = take (getD control 0 0) queue
 pub record QueueOk (kind flags queue control : List ℕ) : Type 0 where
   pub within : getD control 0 0 ≤ length kind
   pub once : (x : ℕ) → occ x (entriesOf queue control) ≤ 1
-  pub named : occ 0 (entriesOf queue control) ≡ 0
+  pub noneEmpty : occ 0 (entriesOf queue control) ≡ 0
   pub object : (c : ℕ) → 1 ≤ occ (suc c) (entriesOf queue control) → getD kind c 0 ≡ 1
   pub wanting : (c : ℕ) → 1 ≤ occ (suc c) (entriesOf queue control) → getD flags c 0 ≡ 1
   pub rest : (i : ℕ) → getD control 0 0 ≤ i → getD queue i 0 ≡ 0
@@ -70,5 +70,5 @@ pub record SoundBut (h : Heap) (extra : List ℕ) : Type 0 where
   pub positive : (c : ℕ) → 1 ≤ kindOf h c → 1 ≤ countOf h c
 
 -- rule 3, of any place: what is referred to is used
-pub named : (h : Heap) (extra : List ℕ) → SoundBut h extra → (c : ℕ) → 1 ≤ occ (suc c) (h .roots) + occ (suc c) (h .slots) + occ (suc c) (entries h) + occ (suc c) extra → 1 ≤ kindOf h c
-named h extra s c o = elim (ℕ-discrete (kindOf h c) 0) [ yes z ↦ absurd (omega (arith, s .counted c, s .freeCount c z)) | no n ↦ omega arith ]
+pub referred-used : (h : Heap) (extra : List ℕ) → SoundBut h extra → (c : ℕ) → 1 ≤ occ (suc c) (h .roots) + occ (suc c) (h .slots) + occ (suc c) (entries h) + occ (suc c) extra → 1 ≤ kindOf h c
+referred-used h extra s c o = elim (ℕ-discrete (kindOf h c) 0) [ yes z ↦ absurd (omega (arith, s .counted c, s .freeCount c z)) | no n ↦ omega arith ]

@@ -11,16 +11,12 @@ use lib.ListN.{length, getD, List·getD-eq-default}
 use lib.Seq.{getD-take}
 use Rattle.rules.specs.Lists.{occ}
 use Rattle.rules.specs.Heap.{Heap, cells, queued, running, kindOf, flagsOf, countOf, slotOf, rootAt, queueAt, entries, Used}
-use Rattle.rules.specs.Sound.{Sized, Reference, Entry, Sound}
+use Rattle.rules.specs.Sound.{Sized, Reference, Entry, Ready}
 use Rattle.rules.specs.Check.{fits, sound}
 use Rattle.laws.specs.Lists.Tables.{inside}
 use Rattle.laws.specs.Lists.Occ.{occ-nil, occ-length, occ-at, occ-find, occ-none, once-apart}
-use Rattle.laws.specs.Sound.But.{SoundBut, named}
+use Rattle.laws.specs.Sound.But.{SoundBut, referred-used}
 use Rattle.laws.specs.Sound.Reflect.{fits-sized, sized-fits, sound-of, of-sound, flags-of, entries-length, entries-once, slot-reference, bump-is}
-
-pub record Ready (h : Heap) : Type 0 where
-  pub sized : Sized h
-  pub sound : Sound h
 
 pub ready-tests : {h : Heap} → Ready h → (fits h ≡ true) × (sound h ≡ true)
 ready-tests {h} r = (sized-fits h (r .sized), of-sound h (r .sized) (r .sound))
@@ -110,7 +106,7 @@ ready-facts {h} r =
       queue = record {
         within = r .sound .rule4 .0;
         once = entries-once h (r .sized) (r .sound);
-        named = occ-none 0 (entries h) (λ i m e. omega (arith, entry-at h r i m .1));
+        noneEmpty = occ-none 0 (entries h) (λ i m e. omega (arith, entry-at h r i m .1));
         object = λ c o. entry-cell h r c o .0;
         wanting = λ c o. entry-cell h r c o .1;
         rest = λ i l. by-cases (decLt i (cells h)) (r .sound .rule4 .3 i l) (λ n. List·getD-eq-default (h .queue) 0 {n = i} (omega (arith, r .sized .queue)));
@@ -141,9 +137,9 @@ reference : (h : Heap) (x : ℕ) → ((c : ℕ) → x ≡ suc c → Used h c) �
 reference h zero f = inl refl
 reference h (suc c) f = inr (c, refl, f c refl)
 
-entry : (h : Heap) (x : ℕ) → 1 ≤ x → ((c : ℕ) → x ≡ suc c → (kindOf h c ≡ 1) × (flagsOf h c ≡ 1)) → Entry h x
-entry h zero l f = absurd (omega arith)
-entry h (suc c) l f = (c, refl, f c refl .0, f c refl .1)
+entry-named : (h : Heap) (x : ℕ) → 1 ≤ x → ((c : ℕ) → x ≡ suc c → (kindOf h c ≡ 1) × (flagsOf h c ≡ 1)) → Entry h x
+entry-named h zero l f = absurd (omega arith)
+entry-named h (suc c) l f = (c, refl, f c refl .0, f c refl .1)
 
 module _ (h : Heap) (s : SoundBut h []) where
   queue-length : length (entries h) ≡ queued h
@@ -161,8 +157,8 @@ module _ (h : Heap) (s : SoundBut h []) where
 
   entry-there : (i : ℕ) → i < queued h → Entry h (queueAt h i)
   entry-there i l =
-      let some : 1 ≤ queueAt h i = by-cases (ℕ-discrete (queueAt h i) 0) (λ z. absurd (omega (arith, s .queue .named, stands i l 0 z))) (λ n. omega arith) in
-      entry h (queueAt h i) some (λ c e. (s .queue .object c (stands i l (suc c) e), s .queue .wanting c (stands i l (suc c) e)))
+      let some : 1 ≤ queueAt h i = by-cases (ℕ-discrete (queueAt h i) 0) (λ z. absurd (omega (arith, s .queue .noneEmpty, stands i l 0 z))) (λ n. omega arith) in
+      entry-named h (queueAt h i) some (λ c e. (s .queue .object c (stands i l (suc c) e), s .queue .wanting c (stands i l (suc c) e)))
 
 pub facts-ready : {h : Heap} → SoundBut h [] → Ready h
 facts-ready {h} s =
@@ -175,8 +171,8 @@ facts-ready {h} s =
           λ e. flags-of (flagsOf h c) (s .shaped .objectFlags c e) (s .shaped .objectNotTwo c e),
         );
         rule3 = (
-          λ i l. reference h (rootAt h i) (λ c e. named h [] s c (omega (arith, occ-at (suc c) (h .roots) i (omega (arith, s .roots)) e))),
-          λ c j l b. reference h (slotOf h c j) (λ d e. named h [] s d (omega (arith, occ-at (suc d) (h .slots) (8 * c + j) (omega (arith, s .slots)) e))),
+          λ i l. reference h (rootAt h i) (λ c e. referred-used h [] s c (omega (arith, occ-at (suc c) (h .roots) i (omega (arith, s .roots)) e))),
+          λ c j l b. reference h (slotOf h c j) (λ d e. referred-used h [] s d (omega (arith, occ-at (suc d) (h .slots) (8 * c + j) (omega (arith, s .slots)) e))),
           λ i l. queue-reference h s i,
         );
         rule4 = (

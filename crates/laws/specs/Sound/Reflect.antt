@@ -269,7 +269,8 @@ module _ (h : Heap) (z : Sized h) where
                   (
                     all-all _ _ (λ i l. let m : i < queued h = omega arith in rw (in-use i m) (entry-ok h _ (r .rule4 .2 i m))),
                     (
-                      all-all _ _ (λ i l. eq-eqb _ _ (sym (getD-drop (queued h) (h .queue) i 0 ∙ r .rule4 .3 (queued h + i) (omega arith) (omega (arith, z .queue, length-drop (queued h) (h .queue)))))),
+                      all-all _ _
+                          (λ i l. eq-eqb _ _ (sym (getD-drop (queued h) (h .queue) i 0 ∙ r .rule4 .3 (queued h + i) (omega arith) (omega (arith, z .queue, length-drop (queued h) (h .queue)))))),
                       (
                         running-ok _ _ (r .rule5),
                         (

@@ -21,14 +21,14 @@ counters tally = length tally - 1
 
 -- `after` is the tally `before` with the references l counted. Those that have no entry are left out; empty ones may be, so of entry 0 it is only said how far it can rise.
 pub record Tallied (before l after : List ℕ) : Type 0 where
-  pub same : length after ≡ length before
+  pub size : length after ≡ length before
   pub at : (x : ℕ) → 1 ≤ x → x < length before → getD after x 0 ≡ getD before x 0 + occ x l
   pub most : (x : ℕ) → getD after x 0 ≤ getD before x 0 + length l
 
 -- there is an entry for the empty references, and every entry has room for k more in 16 bits
-pub record Room (tally : List ℕ) (k : ℕ) : Type 0 where
+pub record TallyRoom (tally : List ℕ) (k : ℕ) : Type 0 where
   pub some : 1 ≤ length tally
-  pub fits : (x : ℕ) → getD tally x 0 + k < 65536
+  pub fits16 : (x : ℕ) → getD tally x 0 + k < 65536
 
 -- how many entries name none of n cells
 unfoldable pub dangling : ℕ → List ℕ → ℕ
@@ -38,13 +38,13 @@ dangling n (x ∷ l) = cond (leb x n) 0 1 + dangling n l
 -- ---- what is counted
 
 pub tallied-none : (tally : List ℕ) → Tallied tally [] tally
-tallied-none tally = record { same = refl; at = λ x s m. omega (arith, occ-nil x); most = λ x. omega arith }
+tallied-none tally = record { size = refl; at = λ x s m. omega (arith, occ-nil x); most = λ x. omega arith }
 
 -- a reference that has an entry, and one that has none
 pub tallied-in : (tally : List ℕ) (x : ℕ) → x < length tally → Tallied tally (x ∷ []) (set tally x (getD tally x 0 + 1))
 tallied-in tally x m =
     record {
-      same = length-set tally x (getD tally x 0 + 1);
+      size = length-set tally x (getD tally x 0 + 1);
       at = λ y s l. each y;
       most = λ y. omega (arith, each y, occ-length y (x ∷ []));
     }
@@ -56,13 +56,13 @@ tallied-in tally x m =
         (λ n. omega (arith, getD-set-other tally x y (getD tally x 0 + 1) 0 n, occ-other y x n))
 
 pub tallied-over : (tally : List ℕ) (x : ℕ) → length tally ≤ x → Tallied tally (x ∷ []) tally
-tallied-over tally x h = record { same = refl; at = λ y s m. omega (arith, occ-other y x (λ e. omega arith)); most = λ y. omega arith }
+tallied-over tally x h = record { size = refl; at = λ y s m. omega (arith, occ-other y x (λ e. omega arith)); most = λ y. omega arith }
 
 -- empty references may be skipped
 pub tallied-zeros : (tally l : List ℕ) → all (eqb 0) l ≡ true → Tallied tally l tally
 tallied-zeros tally l z =
     record {
-      same = refl;
+      size = refl;
       at = λ x s m. omega (arith, occ-none x l (λ i n e. omega (arith, eqb-true 0 (getD l i 0) (all-at (eqb 0) l z i n))));
       most = λ x. omega arith;
     }
@@ -71,8 +71,8 @@ tallied-zeros tally l z =
 pub tallied-append : {a b c : List ℕ} (l m : List ℕ) → Tallied a l b → Tallied b m c → Tallied a (l ++ m) c
 tallied-append l m v w =
     record {
-      same = w .same ∙ v .same;
-      at = λ x s n. omega (arith, v .at x s n, w .at x s (omega (arith, v .same)), occ-append x l m);
+      size = w .size ∙ v .size;
+      at = λ x s n. omega (arith, v .at x s n, w .at x s (omega (arith, v .size)), occ-append x l m);
       most = λ x. omega (arith, v .most x, w .most x, length-append l m);
     }
 
@@ -84,11 +84,11 @@ take-part table i e h =
 pub tallied-part : {a b c : List ℕ} (table : List ℕ) (i e : ℕ) → i ≤ e → Tallied a (take i table) b → Tallied b (take (e - i) (drop i table)) c → Tallied a (take e table) c
 tallied-part table i e h v w = rw (take-part table i e h) (tallied-append _ _ v w)
 
-pub room-after : {a l b : List ℕ} (k : ℕ) → Tallied a l b → Room a (length l + k) → Room b k
-room-after k v r = record { some = omega (arith, v .same, r .some); fits = λ x. omega (arith, v .most x, r .fits x) }
+pub room-after : {a l b : List ℕ} (k : ℕ) → Tallied a l b → TallyRoom a (length l + k) → TallyRoom b k
+room-after k v r = record { some = omega (arith, v .size, r .some); fits16 = λ x. omega (arith, v .most x, r .fits16 x) }
 
-pub less-room : {tally : List ℕ} (m k : ℕ) → k ≤ m → Room tally m → Room tally k
-less-room m k h r = record { some = r .some; fits = λ x. omega (arith, r .fits x) }
+pub less-room : {tally : List ℕ} (m k : ℕ) → k ≤ m → TallyRoom tally m → TallyRoom tally k
+less-room m k h r = record { some = r .some; fits16 = λ x. omega (arith, r .fits16 x) }
 
 -- ---- no entry dangles exactly if each is at most n
 

@@ -45,6 +45,26 @@ mark-slot-at t = and 2 mark-slot-kinds.ps (is 2 mark-slot-kinds.ps μ-mark-slot 
 abbrev mark-slot-below : ℕ → In 2 mark-slot-kinds.ps
 mark-slot-below t = and 2 mark-slot-kinds.ps (falls 2 mark-slot-kinds.ps _<_ μ-mark-slot t) mark-slot.Pre
 
+-- what each of the two is told of the functions that it calls
+abbrev mark-cell-claims : ℕ → mark-cell-lts.Claims
+mark-cell-claims t = (cell-index.Asked, cell-index.Learnt, set-mark.Asked, set-mark.Learnt, slot-of.Asked, slot-of.Learnt, mark-slot-below t, mark-slot.Post)
+
+abbrev mark-slot-claims : ℕ → mark-slot-lts.Claims
+mark-slot-claims t = (
+  cell-index.Asked,
+  cell-index.Learnt,
+  slot-index.Asked,
+  slot-index.Learnt,
+  to-mark.Asked,
+  to-mark.Learnt,
+  set-mark.Asked,
+  set-mark.Learnt,
+  cell-of.Asked,
+  cell-of.Learnt,
+  mark-cell-below t,
+  mark-cell.Post,
+)
+
 abbrev mark-cell-Inv-loop : mark-cell-lts.InvT-loop
 mark-cell-Inv-loop slots marks₀ cell depth k₀ marks k = (k ≤ 8) × (length marks ≡ length marks₀) × (marks ≡ each (markSlot (depth - 1) slots) marks₀ (take k (slotsOf slots (cell .0))))
 
@@ -53,46 +73,50 @@ mark-cell-μ-loop slots marks₀ cell depth k₀ marks k = 8 - k
 
 -- t is the member's own measure
 module _ (t : ℕ) where
-  mark-cell-index-requires : mark-cell-lts.Need-index-requires (cell-index.Asked, cell-index.Learnt, set-mark.Asked, set-mark.Learnt, slot-of.Asked, slot-of.Learnt, mark-slot-below t, mark-slot.Post) (mark-cell-at t) mark-cell.Post mark-cell-Inv-loop mark-cell-μ-loop
+  mark-cell-index-requires : mark-cell-lts.Need-index-requires (mark-cell-claims t) (mark-cell-at t) mark-cell.Post mark-cell-Inv-loop mark-cell-μ-loop
   mark-cell-index-requires c κs = search needs
 
-  mark-cell-set-mark-requires : mark-cell-lts.Need-set-mark-requires (cell-index.Asked, cell-index.Learnt, set-mark.Asked, set-mark.Learnt, slot-of.Asked, slot-of.Learnt, mark-slot-below t, mark-slot.Post) (mark-cell-at t) mark-cell.Post mark-cell-Inv-loop mark-cell-μ-loop
+  mark-cell-set-mark-requires : mark-cell-lts.Need-set-mark-requires (mark-cell-claims t) (mark-cell-at t) mark-cell.Post mark-cell-Inv-loop mark-cell-μ-loop
   mark-cell-set-mark-requires c κs = search needs
 
-  mark-cell-loop-holds : mark-cell-lts.Need-loop-holds (cell-index.Asked, cell-index.Learnt, set-mark.Asked, set-mark.Learnt, slot-of.Asked, slot-of.Learnt, mark-slot-below t, mark-slot.Post) (mark-cell-at t) mark-cell.Post mark-cell-Inv-loop mark-cell-μ-loop
-  mark-cell-loop-holds c = (lit≤ tt, refl, each-none (markSlot (c .before .before .before .before .before .before .before .args .depth - 1) (c .before .before .before .before .before .before .before .args .slots .now)) (c .before .before .set-mark .last .0) (slotsOf (c .before .before .before .before .before .before .before .args .slots .now) (c .before .before .before .before .before .before .before .args .cell .0)))
+  mark-cell-loop-holds : mark-cell-lts.Need-loop-holds (mark-cell-claims t) (mark-cell-at t) mark-cell.Post mark-cell-Inv-loop mark-cell-μ-loop
+  mark-cell-loop-holds c =
+      let entry = c .before .before .before .before .before .before .before in
+      (lit≤ tt, refl, each-none (markSlot (entry .args .depth - 1) (entry .args .slots .now)) (c .before .before .set-mark .last .0) (slotsOf (entry .args .slots .now) (entry .args .cell .0)))
 
-  mark-cell-of-requires : mark-cell-lts.Need-of-requires (cell-index.Asked, cell-index.Learnt, set-mark.Asked, set-mark.Learnt, slot-of.Asked, slot-of.Learnt, mark-slot-below t, mark-slot.Post) (mark-cell-at t) mark-cell.Post mark-cell-Inv-loop mark-cell-μ-loop
+  mark-cell-of-requires : mark-cell-lts.Need-of-requires (mark-cell-claims t) (mark-cell-at t) mark-cell.Post mark-cell-Inv-loop mark-cell-μ-loop
   mark-cell-of-requires c κs = search needs
 
-  mark-cell-enum-known-slot : mark-cell-lts.Need-enum-known-slot (cell-index.Asked, cell-index.Learnt, set-mark.Asked, set-mark.Learnt, slot-of.Asked, slot-of.Learnt, mark-slot-below t, mark-slot.Post) (mark-cell-at t) mark-cell.Post mark-cell-Inv-loop mark-cell-μ-loop
+  mark-cell-enum-known-slot : mark-cell-lts.Need-enum-known-slot (mark-cell-claims t) (mark-cell-at t) mark-cell.Post mark-cell-Inv-loop mark-cell-μ-loop
   mark-cell-enum-known-slot c = search needs
 
-  mark-cell-enum-told : mark-cell-lts.Need-enum-told (cell-index.Asked, cell-index.Learnt, set-mark.Asked, set-mark.Learnt, slot-of.Asked, slot-of.Learnt, mark-slot-below t, mark-slot.Post) (mark-cell-at t) mark-cell.Post mark-cell-Inv-loop mark-cell-μ-loop
+  mark-cell-enum-told : mark-cell-lts.Need-enum-told (mark-cell-claims t) (mark-cell-at t) mark-cell.Post mark-cell-Inv-loop mark-cell-μ-loop
   mark-cell-enum-told c = search needs
 
-  mark-cell-same-length : mark-cell-lts.Need-same-length (cell-index.Asked, cell-index.Learnt, set-mark.Asked, set-mark.Learnt, slot-of.Asked, slot-of.Learnt, mark-slot-below t, mark-slot.Post) (mark-cell-at t) mark-cell.Post mark-cell-Inv-loop mark-cell-μ-loop
+  mark-cell-same-length : mark-cell-lts.Need-same-length (mark-cell-claims t) (mark-cell-at t) mark-cell.Post mark-cell-Inv-loop mark-cell-μ-loop
   mark-cell-same-length c = absurd (omega (arith, rw (c .enum-told .given .1) at (c .before .before .of .ensures)))
 
-  mark-cell-returns : mark-cell-lts.Need-returns (cell-index.Asked, cell-index.Learnt, set-mark.Asked, set-mark.Learnt, slot-of.Asked, slot-of.Learnt, mark-slot-below t, mark-slot.Post) (mark-cell-at t) mark-cell.Post mark-cell-Inv-loop mark-cell-μ-loop
+  mark-cell-returns : mark-cell-lts.Need-returns (mark-cell-claims t) (mark-cell-at t) mark-cell.Post mark-cell-Inv-loop mark-cell-μ-loop
   mark-cell-returns c = absurd (omega (arith, rw (c .enum-told .given .1) at (c .before .before .of .ensures)))
 
-  mark-cell-sub-mark-slot : mark-cell-lts.Need-sub-mark-slot (cell-index.Asked, cell-index.Learnt, set-mark.Asked, set-mark.Learnt, slot-of.Asked, slot-of.Learnt, mark-slot-below t, mark-slot.Post) (mark-cell-at t) mark-cell.Post mark-cell-Inv-loop mark-cell-μ-loop
+  mark-cell-sub-mark-slot : mark-cell-lts.Need-sub-mark-slot (mark-cell-claims t) (mark-cell-at t) mark-cell.Post mark-cell-Inv-loop mark-cell-μ-loop
   mark-cell-sub-mark-slot c = search needs
 
-  mark-cell-mark-slot-requires : mark-cell-lts.Need-mark-slot-requires (cell-index.Asked, cell-index.Learnt, set-mark.Asked, set-mark.Learnt, slot-of.Asked, slot-of.Learnt, mark-slot-below t, mark-slot.Post) (mark-cell-at t) mark-cell.Post mark-cell-Inv-loop mark-cell-μ-loop
+  mark-cell-mark-slot-requires : mark-cell-lts.Need-mark-slot-requires (mark-cell-claims t) (mark-cell-at t) mark-cell.Post mark-cell-Inv-loop mark-cell-μ-loop
   mark-cell-mark-slot-requires c κs =
-      let same : length (c .before .before .before .before .before .before .loop .marks) ≡ length (c .before .before .before .before .before .before .before .before .before .before .before .before .before .before .args .marks .now) = c .before .before .before .before .before .before .loop .inv .1 ∙ c .before .before .before .before .before .before .before .before .before .set-mark .kept .0 in
+      let entry = c .before .before .before .before .before .before .before .before .before .before .before .before .before .before in
+      let loop = c .before .before .before .before .before .before .loop in
+      let same : length (loop .marks) ≡ length (entry .args .marks .now) = loop .inv .1 ∙ c .before .before .before .before .before .before .before .before .before .set-mark .kept .0 in
       let is = rw (c .before .before .slot .given .1) at (c .before .before .before .before .of .ensures) in
-      (omega arith, (rw same (c .before .before .before .before .before .before .before .before .before .before .before .before .before .before .pre .1 .0), (omega arith, omega arith)))
+      (omega arith, (rw same (entry .pre .1 .0), (omega arith, omega arith)))
 
-  mark-cell-add-k : mark-cell-lts.Need-add-k (cell-index.Asked, cell-index.Learnt, set-mark.Asked, set-mark.Learnt, slot-of.Asked, slot-of.Learnt, mark-slot-below t, mark-slot.Post) (mark-cell-at t) mark-cell.Post mark-cell-Inv-loop mark-cell-μ-loop
+  mark-cell-add-k : mark-cell-lts.Need-add-k (mark-cell-claims t) (mark-cell-at t) mark-cell.Post mark-cell-Inv-loop mark-cell-μ-loop
   mark-cell-add-k c = search needs
 
-  mark-cell-loop-less : mark-cell-lts.Need-loop-less (cell-index.Asked, cell-index.Learnt, set-mark.Asked, set-mark.Learnt, slot-of.Asked, slot-of.Learnt, mark-slot-below t, mark-slot.Post) (mark-cell-at t) mark-cell.Post mark-cell-Inv-loop mark-cell-μ-loop
+  mark-cell-loop-less : mark-cell-lts.Need-loop-less (mark-cell-claims t) (mark-cell-at t) mark-cell.Post mark-cell-Inv-loop mark-cell-μ-loop
   mark-cell-loop-less c = search needs
 
-  mark-cell-loop-again : mark-cell-lts.Need-loop-again (cell-index.Asked, cell-index.Learnt, set-mark.Asked, set-mark.Learnt, slot-of.Asked, slot-of.Learnt, mark-slot-below t, mark-slot.Post) (mark-cell-at t) mark-cell.Post mark-cell-Inv-loop mark-cell-μ-loop
+  mark-cell-loop-again : mark-cell-lts.Need-loop-again (mark-cell-claims t) (mark-cell-at t) mark-cell.Post mark-cell-Inv-loop mark-cell-μ-loop
   mark-cell-loop-again c =
       let a = c .before .before .before .before .before .before .before .before .before .before .before .before .before .before .before .before .before in
       let l = c .before .before .before .before .before .before .before .before .before .loop in
@@ -103,124 +127,243 @@ module _ (t : ℕ) where
         s .kept .1 .0 ∙ l .inv .1,
         s .ensures ∙ ap (λ (j : ℕ). step (l .marks) (getD (a .args .slots .now) (8 * a .args .cell .0 + j) 0)) (is .0)
             ∙ ap (λ (m : List ℕ). step m (getD (a .args .slots .now) (8 * a .args .cell .0 + l .k) 0)) (l .inv .2)
-            ∙ each-slot (length (a .args .marks .now)) (a .args .cell .0) (a .pre .1 .0) (a .pre .1 .1 .0) step (c .before .before .before .before .before .before .before .before .before .before .before .before .set-mark .last .0) (l .k) (omega arith),
+            ∙ each-slot
+            (length (a .args .marks .now))
+            (a .args .cell .0)
+            (a .pre .1 .0)
+            (a .pre .1 .1 .0) step
+            (c .before .before .before .before .before .before .before .before .before .before .before .before .set-mark .last .0)
+            (l .k)
+            (omega arith),
       )
 
-  mark-cell-same-length-2 : mark-cell-lts.Need-same-length-2 (cell-index.Asked, cell-index.Learnt, set-mark.Asked, set-mark.Learnt, slot-of.Asked, slot-of.Learnt, mark-slot-below t, mark-slot.Post) (mark-cell-at t) mark-cell.Post mark-cell-Inv-loop mark-cell-μ-loop
+  mark-cell-same-length-2 : mark-cell-lts.Need-same-length-2 (mark-cell-claims t) (mark-cell-at t) mark-cell.Post mark-cell-Inv-loop mark-cell-μ-loop
   mark-cell-same-length-2 c = c .before .loop .inv .1 ∙ c .before .before .before .before .set-mark .kept .0
 
-  mark-cell-returns-2 : mark-cell-lts.Need-returns-2 (cell-index.Asked, cell-index.Learnt, set-mark.Asked, set-mark.Learnt, slot-of.Asked, slot-of.Learnt, mark-slot-below t, mark-slot.Post) (mark-cell-at t) mark-cell.Post mark-cell-Inv-loop mark-cell-μ-loop
+  mark-cell-returns-2 : mark-cell-lts.Need-returns-2 (mark-cell-claims t) (mark-cell-at t) mark-cell.Post mark-cell-Inv-loop mark-cell-μ-loop
   mark-cell-returns-2 c =
       let a = c .before .before .before .before .before .before .before .before .before in
       let l = c .before .loop in
       let s = c .before .before .before .before .set-mark in
       let step : List ℕ → ℕ → List ℕ = markSlot (a .args .depth - 1) (a .args .slots .now) in
       l .inv .2 ∙ each-slots (length (a .args .marks .now)) (a .args .cell .0) (a .pre .1 .0) (a .pre .1 .1 .0) step (s .last .0) (l .k) (omega arith)
-      ∙ ap (λ (m : List ℕ). each step m (slotsOf (a .args .slots .now) (a .args .cell .0))) (s .ensures ∙ ap (λ (i : ℕ). set (a .args .marks .now) i 1) (c .before .before .before .before .before .index .ensures))
+      ∙ ap
+      (λ (m : List ℕ). each step m (slotsOf (a .args .slots .now) (a .args .cell .0)))
+      (s .ensures ∙ ap (λ (i : ℕ). set (a .args .marks .now) i 1) (c .before .before .before .before .before .index .ensures))
       ∙ sym (cell-deep (a .args .slots .now) (a .args .marks .now) (a .args .cell .0) (a .args .depth) (λ e. omega arith))
 
-  mark-slot-index-requires : mark-slot-lts.Need-index-requires (cell-index.Asked, cell-index.Learnt, slot-index.Asked, slot-index.Learnt, to-mark.Asked, to-mark.Learnt, set-mark.Asked, set-mark.Learnt, cell-of.Asked, cell-of.Learnt, mark-cell-below t, mark-cell.Post) (mark-slot-at t) mark-slot.Post
+  mark-slot-index-requires : mark-slot-lts.Need-index-requires (mark-slot-claims t) (mark-slot-at t) mark-slot.Post
   mark-slot-index-requires c κs = search needs
 
-  mark-slot-mul-reference : mark-slot-lts.Need-mul-reference (cell-index.Asked, cell-index.Learnt, slot-index.Asked, slot-index.Learnt, to-mark.Asked, to-mark.Learnt, set-mark.Asked, set-mark.Learnt, cell-of.Asked, cell-of.Learnt, mark-cell-below t, mark-cell.Post) (mark-slot-at t) mark-slot.Post
+  mark-slot-mul-reference : mark-slot-lts.Need-mul-reference (mark-slot-claims t) (mark-slot-at t) mark-slot.Post
   mark-slot-mul-reference c = search needs
 
-  mark-slot-index-requires-2 : mark-slot-lts.Need-index-requires-2 (cell-index.Asked, cell-index.Learnt, slot-index.Asked, slot-index.Learnt, to-mark.Asked, to-mark.Learnt, set-mark.Asked, set-mark.Learnt, cell-of.Asked, cell-of.Learnt, mark-cell-below t, mark-cell.Post) (mark-slot-at t) mark-slot.Post
+  mark-slot-index-requires-2 : mark-slot-lts.Need-index-requires-2 (mark-slot-claims t) (mark-slot-at t) mark-slot.Post
   mark-slot-index-requires-2 c κs = search needs
 
-  mark-slot-add-reference : mark-slot-lts.Need-add-reference (cell-index.Asked, cell-index.Learnt, slot-index.Asked, slot-index.Learnt, to-mark.Asked, to-mark.Learnt, set-mark.Asked, set-mark.Learnt, cell-of.Asked, cell-of.Learnt, mark-cell-below t, mark-cell.Post) (mark-slot-at t) mark-slot.Post
+  mark-slot-add-reference : mark-slot-lts.Need-add-reference (mark-slot-claims t) (mark-slot-at t) mark-slot.Post
   mark-slot-add-reference c = search needs
 
-  mark-slot-mul-reference-2 : mark-slot-lts.Need-mul-reference-2 (cell-index.Asked, cell-index.Learnt, slot-index.Asked, slot-index.Learnt, to-mark.Asked, to-mark.Learnt, set-mark.Asked, set-mark.Learnt, cell-of.Asked, cell-of.Learnt, mark-cell-below t, mark-cell.Post) (mark-slot-at t) mark-slot.Post
+  mark-slot-mul-reference-2 : mark-slot-lts.Need-mul-reference-2 (mark-slot-claims t) (mark-slot-at t) mark-slot.Post
   mark-slot-mul-reference-2 c = search needs
 
-  mark-slot-shared-slice-read-reference : mark-slot-lts.Need-shared-slice-read-reference (cell-index.Asked, cell-index.Learnt, slot-index.Asked, slot-index.Learnt, to-mark.Asked, to-mark.Learnt, set-mark.Asked, set-mark.Learnt, cell-of.Asked, cell-of.Learnt, mark-cell-below t, mark-cell.Post) (mark-slot-at t) mark-slot.Post
+  mark-slot-shared-slice-read-reference : mark-slot-lts.Need-shared-slice-read-reference (mark-slot-claims t) (mark-slot-at t) mark-slot.Post
   mark-slot-shared-slice-read-reference c = search needs
 
-  mark-slot-to-mark-requires : mark-slot-lts.Need-to-mark-requires (cell-index.Asked, cell-index.Learnt, slot-index.Asked, slot-index.Learnt, to-mark.Asked, to-mark.Learnt, set-mark.Asked, set-mark.Learnt, cell-of.Asked, cell-of.Learnt, mark-cell-below t, mark-cell.Post) (mark-slot-at t) mark-slot.Post
-  mark-slot-to-mark-requires c κs = omega (arith, c .before .before .before .before .before .before .pre .1 .0 .within (8 * c .before .before .before .index .result + c .before .before .index2 .result))
+  mark-slot-to-mark-requires : mark-slot-lts.Need-to-mark-requires (mark-slot-claims t) (mark-slot-at t) mark-slot.Post
+  mark-slot-to-mark-requires c κs = omega (
+    arith,
+    c .before .before .before .before .before .before .pre .1 .0 .within (8 * c .before .before .before .index .result + c .before .before .index2 .result),
+  )
 
-  mark-slot-cast-set-mark : mark-slot-lts.Need-cast-set-mark (cell-index.Asked, cell-index.Learnt, slot-index.Asked, slot-index.Learnt, to-mark.Asked, to-mark.Learnt, set-mark.Asked, set-mark.Learnt, cell-of.Asked, cell-of.Learnt, mark-cell-below t, mark-cell.Post) (mark-slot-at t) mark-slot.Post
-  mark-slot-cast-set-mark c = omega (arith, c .before .before .before .before .before .shared-slice-known2 .given (8 * c .before .before .before .before .before .before .before .index .result + c .before .before .before .before .before .before .index2 .result))
+  mark-slot-cast-set-mark : mark-slot-lts.Need-cast-set-mark (mark-slot-claims t) (mark-slot-at t) mark-slot.Post
+  mark-slot-cast-set-mark c = omega (
+    arith,
+    c .before .before .before .before .before .shared-slice-known2 .given
+        (8 * c .before .before .before .before .before .before .before .index .result + c .before .before .before .before .before .before .index2 .result),
+  )
 
-  mark-slot-sub-set-mark : mark-slot-lts.Need-sub-set-mark (cell-index.Asked, cell-index.Learnt, slot-index.Asked, slot-index.Learnt, to-mark.Asked, to-mark.Learnt, set-mark.Asked, set-mark.Learnt, cell-of.Asked, cell-of.Learnt, mark-cell-below t, mark-cell.Post) (mark-slot-at t) mark-slot.Post
+  mark-slot-sub-set-mark : mark-slot-lts.Need-sub-set-mark (mark-slot-claims t) (mark-slot-at t) mark-slot.Post
   mark-slot-sub-set-mark c =
-      let named = mark-named (c .before .before .before .before .before .before .before .before .before .before .args .marks .now) (getD (c .before .before .before .before .before .before .before .before .before .before .args .slots .now) (8 * c .before .before .before .before .before .before .before .index .result + c .before .before .before .before .before .before .index2 .result) 0) (sym (c .before .before .before .to-mark .ensures) ∙ c .before .before .if1 .taken) in
+      let entry = c .before .before .before .before .before .before .before .before .before .before in
+      let named =
+      mark-named
+      (entry .args .marks .now)
+      (getD (entry .args .slots .now) (8 * c .before .before .before .before .before .before .before .index .result + c .before .before .before .before .before .before .index2 .result) 0)
+      (sym (c .before .before .before .to-mark .ensures) ∙ c .before .before .if1 .taken) in
       omega arith
 
-  mark-slot-set-mark-requires : mark-slot-lts.Need-set-mark-requires (cell-index.Asked, cell-index.Learnt, slot-index.Asked, slot-index.Learnt, to-mark.Asked, to-mark.Learnt, set-mark.Asked, set-mark.Learnt, cell-of.Asked, cell-of.Learnt, mark-cell-below t, mark-cell.Post) (mark-slot-at t) mark-slot.Post
+  mark-slot-set-mark-requires : mark-slot-lts.Need-set-mark-requires (mark-slot-claims t) (mark-slot-at t) mark-slot.Post
   mark-slot-set-mark-requires c κs =
-      let named = mark-named (c .before .before .before .before .before .before .before .before .before .before .args .marks .now) (getD (c .before .before .before .before .before .before .before .before .before .before .args .slots .now) (8 * c .before .before .before .before .before .before .before .index .result + c .before .before .before .before .before .before .index2 .result) 0) (sym (c .before .before .before .to-mark .ensures) ∙ c .before .before .if1 .taken) in
-      omega (arith, c .before .before .before .before .before .before .before .before .before .before .pre .1 .0 .within (8 * c .before .before .before .before .before .before .before .index .result + c .before .before .before .before .before .before .index2 .result))
+      let entry = c .before .before .before .before .before .before .before .before .before .before in
+      let index = c .before .before .before .before .before .before .before .index in
+      let index2 = c .before .before .before .before .before .before .index2 in
+      let named =
+      mark-named
+      (entry .args .marks .now)
+      (getD (entry .args .slots .now) (8 * index .result + index2 .result) 0)
+      (sym (c .before .before .before .to-mark .ensures) ∙ c .before .before .if1 .taken) in
+      omega (arith, entry .pre .1 .0 .within (8 * index .result + index2 .result))
 
-  mark-slot-same-length : mark-slot-lts.Need-same-length (cell-index.Asked, cell-index.Learnt, slot-index.Asked, slot-index.Learnt, to-mark.Asked, to-mark.Learnt, set-mark.Asked, set-mark.Learnt, cell-of.Asked, cell-of.Learnt, mark-cell-below t, mark-cell.Post) (mark-slot-at t) mark-slot.Post
+  mark-slot-same-length : mark-slot-lts.Need-same-length (mark-slot-claims t) (mark-slot-at t) mark-slot.Post
   mark-slot-same-length c = c .before .before .set-mark .kept .0
 
-  mark-slot-returns : mark-slot-lts.Need-returns (cell-index.Asked, cell-index.Learnt, slot-index.Asked, slot-index.Learnt, to-mark.Asked, to-mark.Learnt, set-mark.Asked, set-mark.Learnt, cell-of.Asked, cell-of.Learnt, mark-cell-below t, mark-cell.Post) (mark-slot-at t) mark-slot.Post
+  mark-slot-returns : mark-slot-lts.Need-returns (mark-slot-claims t) (mark-slot-at t) mark-slot.Post
   mark-slot-returns c =
+      let entry = c .before .before .before .before .before .before .before .before .before .before .before .before .before in
+      let index = c .before .before .before .before .before .before .before .before .before .before .index in
+      let index2 = c .before .before .before .before .before .before .before .before .before .index2 in
       let a = c .before .before .before .before .before .before .before .before .before .before .before .before .before in
-      let at-slot : 8 * c .before .before .before .before .before .before .before .before .before .before .index .result + c .before .before .before .before .before .before .before .before .before .index2 .result ≡ 8 * c .before .before .before .before .before .before .before .before .before .before .before .before .before .args .cell .0 + c .before .before .before .before .before .before .before .before .before .before .before .before .before .args .slot .0 = omega arith in
-      c .before .before .set-mark .ensures ∙ sym (cell-noted (a .args .slots .now) (a .args .marks .now) (getD (c .before .before .before .before .before .before .before .before .before .before .before .before .before .args .slots .now) (8 * c .before .before .before .before .before .before .before .before .before .before .index .result + c .before .before .before .before .before .before .before .before .before .index2 .result) 0 - 1) (a .args .depth) (c .before .before .before .before .if2 .taken))
-      ∙ sym (slot-cell (a .args .slots .now) (a .args .marks .now) (a .args .depth) (getD (c .before .before .before .before .before .before .before .before .before .before .before .before .before .args .slots .now) (8 * c .before .before .before .before .before .before .before .before .before .before .index .result + c .before .before .before .before .before .before .before .before .before .index2 .result) 0) (c .before .before .before .before .before .before .to-mark .ensures) (c .before .before .before .before .before .if1 .taken))
+      let at-slot : 8 * index .result + index2 .result ≡ 8 * entry .args .cell .0 + entry .args .slot .0 = omega arith in
+      c .before .before .set-mark .ensures
+      ∙ sym
+      (cell-noted
+      (a .args .slots .now)
+      (a .args .marks .now)
+      (getD (entry .args .slots .now) (8 * index .result + index2 .result) 0 - 1)
+      (a .args .depth)
+      (c .before .before .before .before .if2 .taken))
+      ∙ sym
+      (slot-cell
+      (a .args .slots .now)
+      (a .args .marks .now)
+      (a .args .depth)
+      (getD (entry .args .slots .now) (8 * index .result + index2 .result) 0)
+      (c .before .before .before .before .before .before .to-mark .ensures)
+      (c .before .before .before .before .before .if1 .taken))
       ∙ ap (λ (i : ℕ). markSlot (a .args .depth) (a .args .slots .now) (a .args .marks .now) (getD (a .args .slots .now) i 0)) at-slot
 
-  mark-slot-cast-of : mark-slot-lts.Need-cast-of (cell-index.Asked, cell-index.Learnt, slot-index.Asked, slot-index.Learnt, to-mark.Asked, to-mark.Learnt, set-mark.Asked, set-mark.Learnt, cell-of.Asked, cell-of.Learnt, mark-cell-below t, mark-cell.Post) (mark-slot-at t) mark-slot.Post
-  mark-slot-cast-of c = omega (arith, c .before .before .before .before .shared-slice-known2 .given (8 * c .before .before .before .before .before .before .index .result + c .before .before .before .before .before .index2 .result))
+  mark-slot-cast-of : mark-slot-lts.Need-cast-of (mark-slot-claims t) (mark-slot-at t) mark-slot.Post
+  mark-slot-cast-of c = omega (
+    arith,
+    c .before .before .before .before .shared-slice-known2 .given
+        (8 * c .before .before .before .before .before .before .index .result + c .before .before .before .before .before .index2 .result),
+  )
 
-  mark-slot-sub-of : mark-slot-lts.Need-sub-of (cell-index.Asked, cell-index.Learnt, slot-index.Asked, slot-index.Learnt, to-mark.Asked, to-mark.Learnt, set-mark.Asked, set-mark.Learnt, cell-of.Asked, cell-of.Learnt, mark-cell-below t, mark-cell.Post) (mark-slot-at t) mark-slot.Post
+  mark-slot-sub-of : mark-slot-lts.Need-sub-of (mark-slot-claims t) (mark-slot-at t) mark-slot.Post
   mark-slot-sub-of c =
-      let named = mark-named (c .before .before .before .before .before .before .before .before .before .args .marks .now) (getD (c .before .before .before .before .before .before .before .before .before .args .slots .now) (8 * c .before .before .before .before .before .before .index .result + c .before .before .before .before .before .index2 .result) 0) (sym (c .before .before .to-mark .ensures) ∙ c .before .if1 .taken) in
+      let entry = c .before .before .before .before .before .before .before .before .before in
+      let named =
+      mark-named
+      (entry .args .marks .now)
+      (getD (entry .args .slots .now) (8 * c .before .before .before .before .before .before .index .result + c .before .before .before .before .before .index2 .result) 0)
+      (sym (c .before .before .to-mark .ensures) ∙ c .before .if1 .taken) in
       omega arith
 
-  mark-slot-of-requires : mark-slot-lts.Need-of-requires (cell-index.Asked, cell-index.Learnt, slot-index.Asked, slot-index.Learnt, to-mark.Asked, to-mark.Learnt, set-mark.Asked, set-mark.Learnt, cell-of.Asked, cell-of.Learnt, mark-cell-below t, mark-cell.Post) (mark-slot-at t) mark-slot.Post
+  mark-slot-of-requires : mark-slot-lts.Need-of-requires (mark-slot-claims t) (mark-slot-at t) mark-slot.Post
   mark-slot-of-requires c κs = search needs
 
-  mark-slot-enum-known-named : mark-slot-lts.Need-enum-known-named (cell-index.Asked, cell-index.Learnt, slot-index.Asked, slot-index.Learnt, to-mark.Asked, to-mark.Learnt, set-mark.Asked, set-mark.Learnt, cell-of.Asked, cell-of.Learnt, mark-cell-below t, mark-cell.Post) (mark-slot-at t) mark-slot.Post
+  mark-slot-enum-known-named : mark-slot-lts.Need-enum-known-named (mark-slot-claims t) (mark-slot-at t) mark-slot.Post
   mark-slot-enum-known-named c = search needs
 
-  mark-slot-enum-told : mark-slot-lts.Need-enum-told (cell-index.Asked, cell-index.Learnt, slot-index.Asked, slot-index.Learnt, to-mark.Asked, to-mark.Learnt, set-mark.Asked, set-mark.Learnt, cell-of.Asked, cell-of.Learnt, mark-cell-below t, mark-cell.Post) (mark-slot-at t) mark-slot.Post
+  mark-slot-enum-told : mark-slot-lts.Need-enum-told (mark-slot-claims t) (mark-slot-at t) mark-slot.Post
   mark-slot-enum-told c = search needs
 
-  mark-slot-same-length-2 : mark-slot-lts.Need-same-length-2 (cell-index.Asked, cell-index.Learnt, slot-index.Asked, slot-index.Learnt, to-mark.Asked, to-mark.Learnt, set-mark.Asked, set-mark.Learnt, cell-of.Asked, cell-of.Learnt, mark-cell-below t, mark-cell.Post) (mark-slot-at t) mark-slot.Post
+  mark-slot-same-length-2 : mark-slot-lts.Need-same-length-2 (mark-slot-claims t) (mark-slot-at t) mark-slot.Post
   mark-slot-same-length-2 c = search needs
 
-  mark-slot-returns-2 : mark-slot-lts.Need-returns-2 (cell-index.Asked, cell-index.Learnt, slot-index.Asked, slot-index.Learnt, to-mark.Asked, to-mark.Learnt, set-mark.Asked, set-mark.Learnt, cell-of.Asked, cell-of.Learnt, mark-cell-below t, mark-cell.Post) (mark-slot-at t) mark-slot.Post
+  mark-slot-returns-2 : mark-slot-lts.Need-returns-2 (mark-slot-claims t) (mark-slot-at t) mark-slot.Post
   mark-slot-returns-2 c =
-      let named = mark-named (c .before .before .before .before .before .before .before .before .before .before .before .before .args .marks .now) (getD (c .before .before .before .before .before .before .before .before .before .before .before .before .args .slots .now) (8 * c .before .before .before .before .before .before .before .before .before .index .result + c .before .before .before .before .before .before .before .before .index2 .result) 0) (sym (c .before .before .before .before .before .to-mark .ensures) ∙ c .before .before .before .before .if1 .taken) in
-      absurd (omega (arith, rw (c .enum-told .given .1) at (c .before .before .of .ensures), c .before .before .before .before .before .before .before .before .before .before .before .before .pre .1 .0 .fit, c .before .before .before .before .before .before .before .before .before .before .before .before .pre .1 .0 .within (8 * c .before .before .before .before .before .before .before .before .before .index .result + c .before .before .before .before .before .before .before .before .index2 .result)))
+      let entry = c .before .before .before .before .before .before .before .before .before .before .before .before in
+      let index = c .before .before .before .before .before .before .before .before .before .index in
+      let index2 = c .before .before .before .before .before .before .before .before .index2 in
+      let named =
+      mark-named
+      (entry .args .marks .now)
+      (getD (entry .args .slots .now) (8 * index .result + index2 .result) 0)
+      (sym (c .before .before .before .before .before .to-mark .ensures) ∙ c .before .before .before .before .if1 .taken) in
+      absurd (omega (arith, rw (c .enum-told .given .1) at (c .before .before .of .ensures), entry .pre .1 .0 .fit, entry .pre .1 .0 .within (8 * index .result + index2 .result)))
 
-  mark-slot-mark-cell-requires : mark-slot-lts.Need-mark-cell-requires (cell-index.Asked, cell-index.Learnt, slot-index.Asked, slot-index.Learnt, to-mark.Asked, to-mark.Learnt, set-mark.Asked, set-mark.Learnt, cell-of.Asked, cell-of.Learnt, mark-cell-below t, mark-cell.Post) (mark-slot-at t) mark-slot.Post
+  mark-slot-mark-cell-requires : mark-slot-lts.Need-mark-cell-requires (mark-slot-claims t) (mark-slot-at t) mark-slot.Post
   mark-slot-mark-cell-requires c κs =
-      let named = mark-named (c .before .before .before .before .before .before .before .before .before .before .before .before .before .before .args .marks .now) (getD (c .before .before .before .before .before .before .before .before .before .before .before .before .before .before .args .slots .now) (8 * c .before .before .before .before .before .before .before .before .before .before .before .index .result + c .before .before .before .before .before .before .before .before .before .before .index2 .result) 0) (sym (c .before .before .before .before .before .before .before .to-mark .ensures) ∙ c .before .before .before .before .before .before .if1 .taken) in
+      let entry = c .before .before .before .before .before .before .before .before .before .before .before .before .before .before in
+      let named =
+      mark-named
+      (entry .args .marks .now)
+      (getD
+      (entry .args .slots .now)
+      (8 * c .before .before .before .before .before .before .before .before .before .before .before .index .result
+      + c .before .before .before .before .before .before .before .before .before .before .index2 .result) 0)
+      (sym (c .before .before .before .before .before .before .before .to-mark .ensures) ∙ c .before .before .before .before .before .before .if1 .taken) in
       let is = rw (c .before .before .named .given .1) at (c .before .before .before .before .of .ensures) in
-      (omega arith, (c .before .before .before .before .before .before .before .before .before .before .before .before .before .before .pre .1 .0, (omega (arith, c .before .before .before .before .before .before .before .before .before .before .before .before .before .before .pre .1 .0 .fit), omega arith)))
+      (omega arith, (entry .pre .1 .0, (omega (arith, entry .pre .1 .0 .fit), omega arith)))
 
-  mark-slot-same-length-3 : mark-slot-lts.Need-same-length-3 (cell-index.Asked, cell-index.Learnt, slot-index.Asked, slot-index.Learnt, to-mark.Asked, to-mark.Learnt, set-mark.Asked, set-mark.Learnt, cell-of.Asked, cell-of.Learnt, mark-cell-below t, mark-cell.Post) (mark-slot-at t) mark-slot.Post
+  mark-slot-same-length-3 : mark-slot-lts.Need-same-length-3 (mark-slot-claims t) (mark-slot-at t) mark-slot.Post
   mark-slot-same-length-3 c = search needs
 
-  mark-slot-returns-3 : mark-slot-lts.Need-returns-3 (cell-index.Asked, cell-index.Learnt, slot-index.Asked, slot-index.Learnt, to-mark.Asked, to-mark.Learnt, set-mark.Asked, set-mark.Learnt, cell-of.Asked, cell-of.Learnt, mark-cell-below t, mark-cell.Post) (mark-slot-at t) mark-slot.Post
+  mark-slot-returns-3 : mark-slot-lts.Need-returns-3 (mark-slot-claims t) (mark-slot-at t) mark-slot.Post
   mark-slot-returns-3 c =
+      let entry = c .before .before .before .before .before .before .before .before .before .before .before .before .before .before .before .before .before in
+      let index = c .before .before .before .before .before .before .before .before .before .before .before .before .before .before .index in
+      let index2 = c .before .before .before .before .before .before .before .before .before .before .before .before .before .index2 in
       let a = c .before .before .before .before .before .before .before .before .before .before .before .before .before .before .before .before .before in
-      let at-slot : 8 * c .before .before .before .before .before .before .before .before .before .before .before .before .before .before .index .result + c .before .before .before .before .before .before .before .before .before .before .before .before .before .index2 .result ≡ 8 * c .before .before .before .before .before .before .before .before .before .before .before .before .before .before .before .before .before .args .cell .0 + c .before .before .before .before .before .before .before .before .before .before .before .before .before .before .before .before .before .args .slot .0 = omega arith in
+      let at-slot : 8 * index .result + index2 .result ≡ 8 * entry .args .cell .0 + entry .args .slot .0 = omega arith in
       let is = rw (c .before .before .before .before .before .named .given .1) at (c .before .before .before .before .before .before .before .of .ensures) in
       c .before .before .mark-cell .ensures ∙ ap (markCell (a .args .depth) (a .args .slots .now) (a .args .marks .now)) (is .0)
-      ∙ sym (slot-cell (a .args .slots .now) (a .args .marks .now) (a .args .depth) (getD (c .before .before .before .before .before .before .before .before .before .before .before .before .before .before .before .before .before .args .slots .now) (8 * c .before .before .before .before .before .before .before .before .before .before .before .before .before .before .index .result + c .before .before .before .before .before .before .before .before .before .before .before .before .before .index2 .result) 0) (c .before .before .before .before .before .before .before .before .before .before .to-mark .ensures) (c .before .before .before .before .before .before .before .before .before .if1 .taken))
+      ∙ sym
+      (slot-cell
+      (a .args .slots .now)
+      (a .args .marks .now)
+      (a .args .depth)
+      (getD (entry .args .slots .now) (8 * index .result + index2 .result) 0)
+      (c .before .before .before .before .before .before .before .before .before .before .to-mark .ensures)
+      (c .before .before .before .before .before .before .before .before .before .if1 .taken))
       ∙ ap (λ (i : ℕ). markSlot (a .args .depth) (a .args .slots .now) (a .args .marks .now) (getD (a .args .slots .now) i 0)) at-slot
 
-  mark-slot-same-length-4 : mark-slot-lts.Need-same-length-4 (cell-index.Asked, cell-index.Learnt, slot-index.Asked, slot-index.Learnt, to-mark.Asked, to-mark.Learnt, set-mark.Asked, set-mark.Learnt, cell-of.Asked, cell-of.Learnt, mark-cell-below t, mark-cell.Post) (mark-slot-at t) mark-slot.Post
+  mark-slot-same-length-4 : mark-slot-lts.Need-same-length-4 (mark-slot-claims t) (mark-slot-at t) mark-slot.Post
   mark-slot-same-length-4 c = search needs
 
-  mark-slot-returns-4 : mark-slot-lts.Need-returns-4 (cell-index.Asked, cell-index.Learnt, slot-index.Asked, slot-index.Learnt, to-mark.Asked, to-mark.Learnt, set-mark.Asked, set-mark.Learnt, cell-of.Asked, cell-of.Learnt, mark-cell-below t, mark-cell.Post) (mark-slot-at t) mark-slot.Post
+  mark-slot-returns-4 : mark-slot-lts.Need-returns-4 (mark-slot-claims t) (mark-slot-at t) mark-slot.Post
   mark-slot-returns-4 c =
+      let entry = c .before .before .before .before .before .before .before .before in
+      let index = c .before .before .before .before .before .index in
+      let index2 = c .before .before .before .before .index2 in
       let a = c .before .before .before .before .before .before .before .before in
-      let at-slot : 8 * c .before .before .before .before .before .index .result + c .before .before .before .before .index2 .result ≡ 8 * c .before .before .before .before .before .before .before .before .args .cell .0 + c .before .before .before .before .before .before .before .before .args .slot .0 = omega arith in
-      sym (slot-none (a .args .slots .now) (a .args .marks .now) (a .args .depth) (getD (c .before .before .before .before .before .before .before .before .args .slots .now) (8 * c .before .before .before .before .before .index .result + c .before .before .before .before .index2 .result) 0) (c .before .to-mark .ensures) (c .if1 .left))
+      let at-slot : 8 * index .result + index2 .result ≡ 8 * entry .args .cell .0 + entry .args .slot .0 = omega arith in
+      sym (slot-none (a .args .slots .now) (a .args .marks .now) (a .args .depth) (getD (entry .args .slots .now) (8 * index .result + index2 .result) 0) (c .before .to-mark .ensures) (c .if1 .left))
       ∙ ap (λ (i : ℕ). markSlot (a .args .depth) (a .args .slots .now) (a .args .marks .now) (getD (a .args .slots .now) i 0)) at-slot
 
 pub +mark-cell+mark-slot-spec : {M : Type 1} → statement M
 +mark-cell+mark-slot-spec =
     close μ-mark-cell μ-mark-slot
-    (λ t. mark-cell-lts.spec (cell-index.Asked, cell-index.Learnt, set-mark.Asked, set-mark.Learnt, slot-of.Asked, slot-of.Learnt, mark-slot-below t, mark-slot.Post) (mark-cell-at t) mark-cell.Post mark-cell-Inv-loop mark-cell-μ-loop
-    (mark-cell-index-requires t) (mark-cell-set-mark-requires t) (mark-cell-loop-holds t) (mark-cell-of-requires t) (mark-cell-enum-known-slot t) (mark-cell-enum-told t) (mark-cell-same-length t) (mark-cell-returns t) (mark-cell-sub-mark-slot t) (mark-cell-mark-slot-requires t) (mark-cell-add-k t) (mark-cell-loop-less t) (mark-cell-loop-again t) (mark-cell-same-length-2 t) (mark-cell-returns-2 t))
-    (λ t. mark-slot-lts.spec (cell-index.Asked, cell-index.Learnt, slot-index.Asked, slot-index.Learnt, to-mark.Asked, to-mark.Learnt, set-mark.Asked, set-mark.Learnt, cell-of.Asked, cell-of.Learnt, mark-cell-below t, mark-cell.Post) (mark-slot-at t) mark-slot.Post
-    (mark-slot-index-requires t) (mark-slot-mul-reference t) (mark-slot-index-requires-2 t) (mark-slot-add-reference t) (mark-slot-mul-reference-2 t) (mark-slot-shared-slice-read-reference t) (mark-slot-to-mark-requires t) (mark-slot-cast-set-mark t) (mark-slot-sub-set-mark t) (mark-slot-set-mark-requires t) (mark-slot-same-length t) (mark-slot-returns t) (mark-slot-cast-of t) (mark-slot-sub-of t) (mark-slot-of-requires t) (mark-slot-enum-known-named t) (mark-slot-enum-told t) (mark-slot-same-length-2 t) (mark-slot-returns-2 t) (mark-slot-mark-cell-requires t) (mark-slot-same-length-3 t) (mark-slot-returns-3 t) (mark-slot-same-length-4 t) (mark-slot-returns-4 t))
+    (λ t. mark-cell-lts.spec (mark-cell-claims t) (mark-cell-at t) mark-cell.Post mark-cell-Inv-loop mark-cell-μ-loop
+    (mark-cell-index-requires t)
+    (mark-cell-set-mark-requires t)
+    (mark-cell-loop-holds t)
+    (mark-cell-of-requires t)
+    (mark-cell-enum-known-slot t)
+    (mark-cell-enum-told t)
+    (mark-cell-same-length t)
+    (mark-cell-returns t)
+    (mark-cell-sub-mark-slot t)
+    (mark-cell-mark-slot-requires t)
+    (mark-cell-add-k t)
+    (mark-cell-loop-less t)
+    (mark-cell-loop-again t)
+    (mark-cell-same-length-2 t)
+    (mark-cell-returns-2 t))
+    (λ t. mark-slot-lts.spec (mark-slot-claims t) (mark-slot-at t) mark-slot.Post
+    (mark-slot-index-requires t)
+    (mark-slot-mul-reference t)
+    (mark-slot-index-requires-2 t)
+    (mark-slot-add-reference t)
+    (mark-slot-mul-reference-2 t)
+    (mark-slot-shared-slice-read-reference t)
+    (mark-slot-to-mark-requires t)
+    (mark-slot-cast-set-mark t)
+    (mark-slot-sub-set-mark t)
+    (mark-slot-set-mark-requires t)
+    (mark-slot-same-length t)
+    (mark-slot-returns t)
+    (mark-slot-cast-of t)
+    (mark-slot-sub-of t)
+    (mark-slot-of-requires t)
+    (mark-slot-enum-known-named t)
+    (mark-slot-enum-told t)
+    (mark-slot-same-length-2 t)
+    (mark-slot-returns-2 t)
+    (mark-slot-mark-cell-requires t)
+    (mark-slot-same-length-3 t)
+    (mark-slot-returns-3 t)
+    (mark-slot-same-length-4 t)
+    (mark-slot-returns-4 t))

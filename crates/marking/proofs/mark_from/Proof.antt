@@ -1,4 +1,5 @@
 -- `marking::mark_from` meets its contract: the depth shows in no mark. Assumes nothing.
+use native.Mathlib.Omega.{arith}
 use mathlib.Core.Path.{ap, _∙_}
 use Rattle.rules.specs.Depth.{scanAll}
 use Rattle.laws.specs.Marking.Scan.{depth-unseen}
@@ -17,8 +18,10 @@ same-length c = search needs
 
 returns : tie.Need-returns
 returns c =
-    c .before .before .mark-noted .ensures ∙ ap (scanAll (c .before .before .before .before .before .before .before .before .before .before .before .args .slots .now)) (c .before .before .before .before .before .before .mark-table .ensures)
-    ∙ depth-unseen 16 (c .before .before .before .before .before .before .before .before .before .before .before .args .marks .now) (c .before .before .before .before .before .before .before .before .before .before .before .pre .0) (c .before .before .before .before .before .before .before .before .before .before .before .pre .1 .1) (c .before .before .before .before .before .before .before .before .before .before .before .args .table .now) (c .before .before .before .before .before .before .before .before .before .before .before .pre .1 .0)
+    let marked = c .before .before .before .before .before .before .mark-table in
+    let entry = c .before .before .before .before .before .before .before .before .before .before .before in
+    c .before .before .mark-noted .ensures ∙ ap (scanAll 16 (entry .args .slots .now)) (marked .ensures)
+    ∙ depth-unseen 16 16 (omega arith) (entry .args .marks .now) (entry .pre .0) (entry .pre .1 .1) (entry .args .table .now) (entry .pre .1 .0)
 
 pub mark-from-spec : {M : Type 1} → statement M
 mark-from-spec = tie.close (tie.spec mark-table-requires mark-noted-requires same-length returns)

@@ -11,7 +11,7 @@ use Rattle.marking.proofs.mark_noted.Statement.{statement}
 use Rattle.marking.proofs.mark_noted.Tie as tie
 
 abbrev Inv-loop : tie.InvT-loop
-Inv-loop slots marks₀ n c₀ marks c = Scanning slots marks₀ marks c
+Inv-loop slots marks₀ n c₀ marks c = Scanning 16 slots marks₀ marks c
 
 abbrev μ-loop : tie.MeasureT-loop
 μ-loop slots marks₀ n c₀ marks c = length marks - occ 1 marks
@@ -30,27 +30,41 @@ enum-known-cell c = search needs
 
 mark-cell-requires : tie.Need-mark-cell-requires Inv-loop μ-loop
 mark-cell-requires c κs =
-    let is = rw (c .before .before .cell .given .1) at (c .before .before .before .before .of .ensures) in
-    (rw (c .before .before .before .before .before .loop .inv .len) (c .before .before .before .before .before .before .before .before .before .before .pre), (omega (arith, c .before .before .before .before .before .before .before .before .before .before .pre .fit, c .before .before .before .before .before .loop .inv .len), omega arith))
+    let loop = c .before .before .before .before .before .loop in
+    let is = rw (c .before .before .cell .given .1) at (c .before .before .before .before .of .ensures) in (
+      rw (loop .inv .len) (c .before .before .before .before .before .before .before .before .before .before .pre),
+      (omega (arith, c .before .before .before .before .before .before .before .before .before .before .pre .fit, loop .inv .len), omega arith),
+    )
 
 next-noted-requires-2 : tie.Need-next-noted-requires-2 Inv-loop μ-loop
 next-noted-requires-2 c κs =
-    let is = rw (c .before .before .before .before .before .before .cell .given .1) at (c .before .before .before .before .before .before .before .before .of .ensures) in
-    (omega arith, omega (arith, c .before .before .before .before .before .before .before .before .before .before .before .before .before .before .pre .fit, c .before .before .before .mark-cell .kept .1 .0, c .before .before .before .before .before .before .before .before .before .loop .inv .len))
+    let is = rw (c .before .before .before .before .before .before .cell .given .1) at (c .before .before .before .before .before .before .before .before .of .ensures) in (
+      omega arith,
+      omega (
+        arith,
+        c .before .before .before .before .before .before .before .before .before .before .before .before .before .before .pre .fit,
+        c .before .before .before .mark-cell .kept .1 .0,
+        c .before .before .before .before .before .before .before .before .before .loop .inv .len,
+      ),
+    )
 
 loop-less : tie.Need-loop-less Inv-loop μ-loop
 loop-less c =
     let is = rw (c .before .before .before .before .before .before .before .cell .given .1) at (c .before .before .before .before .before .before .before .before .before .of .ensures) in
     let m = c .before .before .before .before .mark-cell in
     let l = c .before .before .before .before .before .before .before .before .before .before .loop in
-    scanning-less (l .marks) (m .last .1 .0) (rw (l .inv .len) (c .before .before .before .before .before .before .before .before .before .before .before .before .before .before .before .pre)) (l .inv) (omega (arith, c .before .before .before .before .before .before .before .before .before .before .before .before .before .before .before .pre .fit, l .inv .len)) (m .ensures ∙ ap (markCell 16 (c .before .before .before .before .before .before .before .before .before .before .before .before .before .before .before .args .slots .now) (l .marks)) (is .0))
+    let entry = c .before .before .before .before .before .before .before .before .before .before .before .before .before .before .before in
+    scanning-less (omega arith) (l .marks) (m .last .1 .0) (rw (l .inv .len) (entry .pre)) (l .inv) (omega (arith, entry .pre .fit, l .inv .len))
+    (m .ensures ∙ ap (markCell 16 (entry .args .slots .now) (l .marks)) (is .0))
 
 loop-again : tie.Need-loop-again Inv-loop μ-loop
 loop-again c =
     let is = rw (c .before .before .before .before .before .before .before .cell .given .1) at (c .before .before .before .before .before .before .before .before .before .of .ensures) in
     let m = c .before .before .before .before .mark-cell in
     let l = c .before .before .before .before .before .before .before .before .before .before .loop in
-    scanning-turn (l .marks) (m .last .1 .0) (rw (l .inv .len) (c .before .before .before .before .before .before .before .before .before .before .before .before .before .before .before .pre)) (l .inv) (omega (arith, c .before .before .before .before .before .before .before .before .before .before .before .before .before .before .before .pre .fit, l .inv .len)) (m .ensures ∙ ap (markCell 16 (c .before .before .before .before .before .before .before .before .before .before .before .before .before .before .before .args .slots .now) (l .marks)) (is .0))
+    let entry = c .before .before .before .before .before .before .before .before .before .before .before .before .before .before .before in
+    scanning-turn (omega arith) (l .marks) (m .last .1 .0) (rw (l .inv .len) (entry .pre)) (l .inv) (omega (arith, entry .pre .fit, l .inv .len))
+    (m .ensures ∙ ap (markCell 16 (entry .args .slots .now) (l .marks)) (is .0))
     (c .next-noted2 .result) (c .next-noted2 .ensures)
 
 enum-told : tie.Need-enum-told Inv-loop μ-loop
@@ -61,8 +75,9 @@ same-length c = c .before .before .before .loop .inv .len
 
 returns : tie.Need-returns Inv-loop μ-loop
 returns c =
+    let loop = c .before .before .before .loop in
     let not = rw (c .enum-told .given .1) at (c .before .before .of .ensures) in
-    scanning-done (c .before .before .before .loop .marks) (c .before .before .before .loop .c) (c .before .before .before .loop .inv) (omega (arith, c .before .before .before .loop .inv .len, c .before .before .before .before .before .before .before .before .pre .fit))
+    scanning-done (loop .marks) (loop .c) (loop .inv) (omega (arith, loop .inv .len, c .before .before .before .before .before .before .before .before .pre .fit))
 
 pub mark-noted-spec : {M : Type 1} → statement M
 mark-noted-spec =

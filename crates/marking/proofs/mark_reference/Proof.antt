@@ -12,7 +12,8 @@ to-mark-requires c κs = search needs
 
 sub-of : tie.Need-sub-of
 sub-of c =
-    let named = mark-named (c .before .before .before .before .before .args .marks .now) (c .before .before .before .before .before .args .reference) (sym (c .before .to-mark .ensures) ∙ c .if1 .taken) in
+    let entry = c .before .before .before .before .before in
+    let named = mark-named (entry .args .marks .now) (entry .args .reference) (sym (c .before .to-mark .ensures) ∙ c .if1 .taken) in
     omega arith
 
 of-requires : tie.Need-of-requires
@@ -29,29 +30,44 @@ same-length c = search needs
 
 returns : tie.Need-returns
 returns c =
-    let named = mark-named (c .before .before .before .before .before .before .before .before .args .marks .now) (c .before .before .before .before .before .before .before .before .args .reference) (sym (c .before .before .before .before .to-mark .ensures) ∙ c .before .before .before .if1 .taken) in
-    absurd (omega (arith, rw (c .enum-told .given .1) at (c .before .before .of .ensures), c .before .before .before .before .before .before .before .before .pre .0 .fit))
+    let entry = c .before .before .before .before .before .before .before .before in
+    let named = mark-named (entry .args .marks .now) (entry .args .reference) (sym (c .before .before .before .before .to-mark .ensures) ∙ c .before .before .before .if1 .taken) in
+    absurd (omega (arith, rw (c .enum-told .given .1) at (c .before .before .of .ensures), entry .pre .0 .fit))
 
 mark-cell-requires : tie.Need-mark-cell-requires
 mark-cell-requires c κs =
-    let named = mark-named (c .before .before .before .before .before .before .before .before .before .before .args .marks .now) (c .before .before .before .before .before .before .before .before .before .before .args .reference) (sym (c .before .before .before .before .before .before .to-mark .ensures) ∙ c .before .before .before .before .before .if1 .taken) in
+    let entry = c .before .before .before .before .before .before .before .before .before .before in
+    let named =
+    mark-named
+    (entry .args .marks .now)
+    (entry .args .reference)
+    (sym (c .before .before .before .before .before .before .to-mark .ensures) ∙ c .before .before .before .before .before .if1 .taken) in
     let is = rw (c .before .before .cell .given .1) at (c .before .before .before .before .of .ensures) in
-    (c .before .before .before .before .before .before .before .before .before .before .pre .0, (omega (arith, c .before .before .before .before .before .before .before .before .before .before .pre .0 .fit), omega arith))
+    (entry .pre .0, (omega (arith, entry .pre .0 .fit), omega arith))
 
 same-length-2 : tie.Need-same-length-2
 same-length-2 c = search needs
 
 returns-2 : tie.Need-returns-2
 returns-2 c =
+    let entry = c .before .before .before .before .before .before .before .before .before .before .before .before .before in
     let is = rw (c .before .before .before .before .before .cell .given .1) at (c .before .before .before .before .before .before .before .of .ensures) in
-    c .before .before .mark-cell .ensures ∙ ap (markCell 16 (c .before .before .before .before .before .before .before .before .before .before .before .before .before .args .slots .now) (c .before .before .before .before .before .before .before .before .before .before .before .before .before .args .marks .now)) (is .0)
-    ∙ sym (slot-cell (c .before .before .before .before .before .before .before .before .before .before .before .before .before .args .slots .now) (c .before .before .before .before .before .before .before .before .before .before .before .before .before .args .marks .now) 16 (c .before .before .before .before .before .before .before .before .before .before .before .before .before .args .reference) (c .before .before .before .before .before .before .before .before .before .to-mark .ensures) (c .before .before .before .before .before .before .before .before .if1 .taken))
+    c .before .before .mark-cell .ensures ∙ ap (markCell 16 (entry .args .slots .now) (entry .args .marks .now)) (is .0)
+    ∙ sym
+    (slot-cell
+    (entry .args .slots .now)
+    (entry .args .marks .now) 16
+    (entry .args .reference)
+    (c .before .before .before .before .before .before .before .before .before .to-mark .ensures)
+    (c .before .before .before .before .before .before .before .before .if1 .taken))
 
 same-length-3 : tie.Need-same-length-3
 same-length-3 c = search needs
 
 returns-3 : tie.Need-returns-3
-returns-3 c = sym (slot-none (c .before .before .before .before .before .args .slots .now) (c .before .before .before .before .before .args .marks .now) 16 (c .before .before .before .before .before .args .reference) (c .before .to-mark .ensures) (c .if1 .left))
+returns-3 c =
+    let entry = c .before .before .before .before .before in
+    sym (slot-none (entry .args .slots .now) (entry .args .marks .now) 16 (entry .args .reference) (c .before .to-mark .ensures) (c .if1 .left))
 
 pub mark-reference-spec : {M : Type 1} → statement M
 mark-reference-spec =

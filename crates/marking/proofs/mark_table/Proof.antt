@@ -18,7 +18,9 @@ abbrev μ-loop : tie.MeasureT-loop
 μ-loop slots marks₀ table i₀ i-end marks i = length table - i
 
 loop-holds : tie.Need-loop-holds Inv-loop μ-loop
-loop-holds c = (search needs, refl, each-none (markSlot 16 (c .before .before .before .args .slots .now)) (c .before .before .before .args .marks .now) (c .before .before .before .args .table .now))
+loop-holds c =
+    let entry = c .before .before .before in
+    (search needs, refl, each-none (markSlot 16 (entry .args .slots .now)) (entry .args .marks .now) (entry .args .table .now))
 
 mul-mark-reference : tie.Need-mul-mark-reference Inv-loop μ-loop
 mul-mark-reference c = search needs
@@ -27,7 +29,10 @@ shared-slice-read-mark-reference : tie.Need-shared-slice-read-mark-reference Inv
 shared-slice-read-mark-reference c = search needs
 
 mark-reference-requires : tie.Need-mark-reference-requires Inv-loop μ-loop
-mark-reference-requires c κs = (rw (c .before .before .before .loop .inv .1) (c .before .before .before .before .before .before .before .pre .0), omega (arith, c .before .before .before .before .before .before .before .pre .1 (c .before .before .before .loop .i)))
+mark-reference-requires c κs =
+    let entry = c .before .before .before .before .before .before .before in
+    let loop = c .before .before .before .loop in
+    (rw (loop .inv .1) (entry .pre .0), omega (arith, entry .pre .1 (loop .i)))
 
 add-i : tie.Need-add-i Inv-loop μ-loop
 add-i c = search needs
@@ -37,12 +42,13 @@ loop-less c = search needs
 
 loop-again : tie.Need-loop-again Inv-loop μ-loop
 loop-again c =
+    let entry = c .before .before .before .before .before .before .before .before .before .before in
     let l = c .before .before .before .before .before .before .loop in
     let s = c .before .before .mark-reference in (
       search needs,
       s .kept .1 .0 ∙ l .inv .1,
-      s .ensures ∙ ap (λ (m : List ℕ). markSlot 16 (c .before .before .before .before .before .before .before .before .before .before .args .slots .now) m (getD (c .before .before .before .before .before .before .before .before .before .before .args .table .now) (l .i) 0)) (l .inv .2)
-          ∙ sym (each-take (markSlot 16 (c .before .before .before .before .before .before .before .before .before .before .args .slots .now)) (c .before .before .before .before .before .before .before .before .before .before .args .table .now) (c .before .before .before .before .before .before .before .before .before .before .args .marks .now) (l .i) (omega arith)),
+      s .ensures ∙ ap (λ (m : List ℕ). markSlot 16 (entry .args .slots .now) m (getD (entry .args .table .now) (l .i) 0)) (l .inv .2)
+          ∙ sym (each-take (markSlot 16 (entry .args .slots .now)) (entry .args .table .now) (entry .args .marks .now) (l .i) (omega arith)),
     )
 
 same-length : tie.Need-same-length Inv-loop μ-loop
@@ -50,7 +56,9 @@ same-length c = search needs
 
 returns : tie.Need-returns Inv-loop μ-loop
 unfolding markTable
-returns c = c .before .loop .inv .2 ∙ ap (each (markSlot 16 (c .before .before .before .before .before .args .slots .now)) (c .before .before .before .before .before .args .marks .now)) (take-all (c .before .loop .i) (c .before .before .before .before .before .args .table .now) (omega arith))
+returns c =
+    let entry = c .before .before .before .before .before in
+    c .before .loop .inv .2 ∙ ap (each (markSlot 16 (entry .args .slots .now)) (entry .args .marks .now)) (take-all (c .before .loop .i) (entry .args .table .now) (omega arith))
 
 pub mark-table-spec : {M : Type 1} → statement M
 mark-table-spec =

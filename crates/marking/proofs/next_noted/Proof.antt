@@ -16,10 +16,17 @@ noted-between-requires-2 : tie.Need-noted-between-requires-2
 noted-between-requires-2 c κs = search needs
 
 returns-2 : tie.Need-returns-2
-returns-2 c = next-before (rw (sym (c .before .before .before .before .before .pre .1)) at (c .before .before .before .noted-between .ensures)) (c .before .noted-between2 .ensures) (omega arith) (c .if2 .taken)
+returns-2 c =
+    next-before
+    (rw (sym (c .before .before .before .before .before .pre .1)) at (c .before .before .before .noted-between .ensures))
+    (c .before .noted-between2 .ensures)
+    (omega arith)
+    (c .if2 .taken)
 
 returns-3 : tie.Need-returns-3
-returns-3 c = sym (c .before .before .before .before .before .pre .1) ∙ next-none (rw (sym (c .before .before .before .before .before .pre .1)) at (c .before .before .before .noted-between .ensures)) (c .before .noted-between2 .ensures) (omega arith) (c .if2 .left)
+returns-3 c =
+    let entry = c .before .before .before .before .before in
+    sym (entry .pre .1) ∙ next-none (rw (sym (entry .pre .1)) at (c .before .before .before .noted-between .ensures)) (c .before .noted-between2 .ensures) (omega arith) (c .if2 .left)
 
 pub next-noted-spec : {M : Type 1} → statement M
 next-noted-spec =

@@ -18,7 +18,9 @@ mark-of-requires : tie.Need-mark-of-requires
 mark-of-requires c κs = search needs
 
 returns-2 : tie.Need-returns-2
-returns-2 c = ap (λ (x : ℕ). not (eqb x 1)) (c .mark-of .ensures) ∙ mark-test (c .before .before .before .args .marks .now) (c .before .before .before .args .reference) (c .before .if1 .left)
+returns-2 c =
+    let entry = c .before .before .before in
+    ap (λ (x : ℕ). not (eqb x 1)) (c .mark-of .ensures) ∙ mark-test (entry .args .marks .now) (entry .args .reference) (c .before .if1 .left)
 
 pub to-mark-spec : {M : Type 1} → statement M
 to-mark-spec = tie.close (tie.spec returns sub-mark-of mark-of-requires returns-2)

@@ -1,14 +1,14 @@
 -- `release::decref` meets its contract: each way through it is one case of the rules'.
--- The guard's way is never gone, and nothing leans on it: that the count is 1 past the first test is `only`. Assumes nothing.
+-- The guard's way is never gone, and nothing leans on it: that the count is 1 past the first test is `last-one`. Assumes nothing.
 use native.Mathlib.Omega.{arith}
-use Rattle.release.proofs.Due.{tail-fits, named-due, range, not-zero, only}
-use Rattle.release.proofs.Step.{none, many, at-zero}
+use Rattle.release.proofs.Due.{tail-fits, named-due, range, not-zero, last-one}
+use Rattle.release.proofs.Step.{came-off-none, many, at-zero}
 use borrow.Author.Needs.{needs}
 use Rattle.release.proofs.decref.Statement.{statement}
 use Rattle.release.proofs.decref.Tie as tie
 
 returns : tie.Need-returns
-returns c = none _ _ _ _ _ _ _ (tail-fits _ _ _ _ _ _ _ _ (c .before .before .before .before .before .before .before .pre)) _ (c .if1 .taken)
+returns c = came-off-none _ _ _ _ _ _ _ (tail-fits _ _ _ _ _ _ _ _ (c .before .before .before .before .before .before .before .pre)) _ (c .if1 .taken)
 
 sub-c : tie.Need-sub-c
 sub-c c = search needs
@@ -20,7 +20,9 @@ mul-n : tie.Need-mul-n
 mul-n c = search needs
 
 slice-read-n : tie.Need-slice-read-n
-slice-read-n c = omega (arith, range _ _ _ _ _ _ _ _ (named-due _ _ _ _ _ _ _ _ (c .before .before .before .before .before .before .before .before .pre) (c .before .if1 .left)), c .before .before .before .before .before .before .before .before .pre .balanced .fit .count-size)
+slice-read-n c =
+    let entry = c .before .before .before .before .before .before .before .before in
+    omega (arith, range _ _ _ _ _ _ _ _ (named-due _ _ _ _ _ _ _ _ (entry .pre) (c .before .if1 .left)), entry .pre .balanced .fit .count-size)
 
 sub-count : tie.Need-sub-count
 sub-count c = search needs
@@ -29,7 +31,9 @@ mul-count : tie.Need-mul-count
 mul-count c = search needs
 
 slice-write-count : tie.Need-slice-write-count
-slice-write-count c = omega (arith, range _ _ _ _ _ _ _ _ (named-due _ _ _ _ _ _ _ _ (c .before .before .before .before .before .before .before .before .before .pre) (c .before .before .if1 .left)), c .before .before .before .before .before .before .before .before .before .pre .balanced .fit .count-size)
+slice-write-count c =
+    let entry = c .before .before .before .before .before .before .before .before .before in
+    omega (arith, range _ _ _ _ _ _ _ _ (named-due _ _ _ _ _ _ _ _ (entry .pre) (c .before .before .if1 .left)), entry .pre .balanced .fit .count-size)
 
 same-length : tie.Need-same-length
 same-length c = search needs
@@ -38,11 +42,23 @@ returns-2 : tie.Need-returns-2
 returns-2 c = many _ _ _ _ _ _ _ (tail-fits _ _ _ _ _ _ _ _ (c .before .before .before .before .before .before .before .before .before .pre)) _ (c .before .before .if1 .left) (c .if2 .taken)
 
 returns-3 : tie.Need-returns-3
-returns-3 c = absurd (omega (arith, not-zero _ _ _ _ _ _ _ _ (named-due _ _ _ _ _ _ _ _ (c .before .before .before .before .before .before .before .before .before .before .pre) (c .before .before .before .if1 .left)), c .if3 .taken))
+returns-3 c =
+    absurd
+    (omega (
+      arith,
+      not-zero _ _ _ _ _ _ _ _ (named-due _ _ _ _ _ _ _ _ (c .before .before .before .before .before .before .before .before .before .before .pre) (c .before .before .before .if1 .left)),
+      c .if3 .taken,
+    ))
 
 refzero-requires : tie.Need-refzero-requires
 refzero-requires c κs =
-    record { due = c .before .before .before .before .before .before .before .before .before .before .before .before .before .before .pre; some = omega (arith, c .before .before .before .before .before .before .before .if1 .left); last = only _ _ _ _ _ _ _ _ (named-due _ _ _ _ _ _ _ _ (c .before .before .before .before .before .before .before .before .before .before .before .before .before .before .pre) (c .before .before .before .before .before .before .before .if1 .left)) (c .before .before .before .before .before .if2 .left) }
+    let entry = c .before .before .before .before .before .before .before .before .before .before .before .before .before .before in
+    let if1 = c .before .before .before .before .before .before .before .if1 in
+    record {
+      due = entry .pre;
+      some = omega (arith, if1 .left);
+      last = last-one _ _ _ _ _ _ _ _ (named-due _ _ _ _ _ _ _ _ (entry .pre) (if1 .left)) (c .before .before .before .before .before .if2 .left);
+    }
 
 same-length-2 : tie.Need-same-length-2
 same-length-2 c = search needs
@@ -58,8 +74,12 @@ same-length-5 c = search needs
 
 returns-4 : tie.Need-returns-4
 returns-4 c =
-    at-zero _ _ _ _ _ _ _ (tail-fits _ _ _ _ _ _ _ _ (c .before .before .before .before .before .before .before .before .before .before .before .before .before .before .before .before .before .before .before .before .before .before .before .pre)) _ (c .before .before .before .before .before .before .before .before .before .before .before .before .before .before .before .before .if1 .left) _ _ _ _ _
-    (only _ _ _ _ _ _ _ _ (named-due _ _ _ _ _ _ _ _ (c .before .before .before .before .before .before .before .before .before .before .before .before .before .before .before .before .before .before .before .before .before .before .before .pre) (c .before .before .before .before .before .before .before .before .before .before .before .before .before .before .before .before .if1 .left)) (c .before .before .before .before .before .before .before .before .before .before .before .before .before .before .if2 .left)) (c .before .before .before .before .before .before .before .before .refzero .ensures)
+    let entry =
+    c .before .before .before .before .before .before .before .before .before .before .before .before .before .before .before .before .before .before .before .before .before .before .before in
+    let if1 = c .before .before .before .before .before .before .before .before .before .before .before .before .before .before .before .before .if1 in
+    let if2 = c .before .before .before .before .before .before .before .before .before .before .before .before .before .before .if2 in
+    at-zero _ _ _ _ _ _ _ (tail-fits _ _ _ _ _ _ _ _ (entry .pre)) _ (if1 .left) _ _ _ _ _
+    (last-one _ _ _ _ _ _ _ _ (named-due _ _ _ _ _ _ _ _ (entry .pre) (if1 .left)) (if2 .left)) (c .before .before .before .before .before .before .before .before .refzero .ensures)
 
 pub decref-spec : {M : Type 1} → statement M
 decref-spec =

@@ -6,7 +6,7 @@ use native.Mathlib.Omega.{arith}
 use lib.ListN.{length, take, drop}
 use lib.Seq.{slice, take-add, drop-at, length-take-le}
 use Rattle.rules.specs.Heap.{slotsOf}
-use Rattle.release.specs.Steps.{Due}
+use Rattle.release.specs.Steps.{ToComeOff}
 use Rattle.release.proofs.Run.{Going, go-start, go-due, go-on, go-end}
 use Rattle.release.proofs.decref_slots.Statement.{statement}
 use Rattle.release.proofs.decref_slots.Tie as tie
@@ -33,27 +33,40 @@ add-end c = omega (arith, c .before .before .before .before .before .before .bef
 loop-holds : tie.Need-loop-holds Inv-loop μ-loop
 loop-holds c =
     let p = c .before .before .before .before .before .before .before .pre in
-    go-start _ _ _ _ _ _ _ _ _ _ (omega arith) (p .0) (subst⁻¹ (Due _ _ _ _ _ _ _) (eight _ _ (p .0)) (p .1))
+    go-start _ _ _ _ _ _ _ _ _ _ (omega arith) (p .0) (subst⁻¹ (ToComeOff _ _ _ _ _ _ _) (eight _ _ (p .0)) (p .1))
 
 mul-decref : tie.Need-mul-decref Inv-loop μ-loop
-mul-decref c = omega (arith, c .before .before .before .before .before .loop .inv .inside, c .before .before .before .before .loop-test .taken, c .before .before .before .before .before .before .before .before .before .before .before .before .before .good)
+mul-decref c =
+    let good = c .before .before .before .before .before .before .before .before .before .before .before .before .before .good in
+    omega (arith, c .before .before .before .before .before .loop .inv .inside, c .before .before .before .before .loop-test .taken, good)
 
 shared-slice-read-decref : tie.Need-shared-slice-read-decref Inv-loop μ-loop
 shared-slice-read-decref c = omega (arith, c .before .before .before .before .before .before .loop .inv .inside, c .before .before .before .before .before .loop-test .taken)
 
 decref-requires : tie.Need-decref-requires Inv-loop μ-loop
-decref-requires c κs = go-due _ _ _ _ _ _ _ _ _ _ _ _ _ _ _ _ (c .before .before .before .before .before .before .loop .inv) (omega (arith, c .before .before .before .before .before .loop-test .taken))
+decref-requires c κs =
+    go-due _ _ _ _ _ _ _ _ _ _ _ _ _ _ _ _ (c .before .before .before .before .before .before .loop .inv) (omega (arith, c .before .before .before .before .before .loop-test .taken))
 
 add-i : tie.Need-add-i Inv-loop μ-loop
-add-i c = omega (arith, c .before .before .before .before .before .before .before .before .before .before .before .before .before .before .before .loop .inv .inside, c .before .before .before .before .before .before .before .before .before .before .before .before .before .before .loop-test .taken, c .before .before .before .before .before .before .before .before .before .before .before .before .before .before .before .before .before .before .before .before .before .before .before .good)
+add-i c =
+    let good =
+    c .before .before .before .before .before .before .before .before .before .before .before .before .before .before .before .before .before .before
+    .before .before .before .before .before .good in
+    let loop = c .before .before .before .before .before .before .before .before .before .before .before .before .before .before .before .loop in
+    let loop-test = c .before .before .before .before .before .before .before .before .before .before .before .before .before .before .loop-test in
+    omega (arith, loop .inv .inside, loop-test .taken, good)
 
 loop-less : tie.Need-loop-less Inv-loop μ-loop
-loop-less c = omega (arith, c .before .before .before .before .before .before .before .before .before .before .before .before .before .before .loop-test .taken)
+loop-less c =
+    let loop-test = c .before .before .before .before .before .before .before .before .before .before .before .before .before .before .loop-test in
+    omega (arith, loop-test .taken)
 
 loop-again : tie.Need-loop-again Inv-loop μ-loop
 loop-again c =
+    let loop = c .before .before .before .before .before .before .before .before .before .before .before .before .before .before .before .loop in
+    let loop-test = c .before .before .before .before .before .before .before .before .before .before .before .before .before .before .loop-test in
     let d = c .before .before .before .before .before .before .before .before .decref in
-    go-on _ _ _ _ _ _ _ _ _ _ _ _ _ _ _ _ (c .before .before .before .before .before .before .before .before .before .before .before .before .before .before .before .loop .inv) (omega (arith, c .before .before .before .before .before .before .before .before .before .before .before .before .before .before .loop-test .taken)) _ _ _ _ _ (d .ensures)
+    go-on _ _ _ _ _ _ _ _ _ _ _ _ _ _ _ _ (loop .inv) (omega (arith, loop-test .taken)) _ _ _ _ _ (d .ensures)
     (d .kept .1 .1 .0) (d .kept .1 .1 .1 .0) (d .kept .1 .1 .1 .1 .0) (d .kept .1 .1 .1 .1 .1 .0)
 
 same-length : tie.Need-same-length Inv-loop μ-loop

@@ -1,7 +1,7 @@
 -- `release::incref` meets its contract. Assumes nothing.
 use native.Mathlib.Omega.{arith}
 use Rattle.rules.specs.Release.{raise}
-use Rattle.release.proofs.Writing.{some, raised-at}
+use Rattle.release.proofs.Writing.{names-cell, raised-at}
 use borrow.Author.Needs.{needs}
 use Rattle.release.proofs.incref.Statement.{statement}
 use Rattle.release.proofs.incref.Tie as tie
@@ -20,13 +20,13 @@ mul-count : tie.Need-mul-count
 mul-count c = search needs
 
 slice-read-count : tie.Need-slice-read-count
-slice-read-count c = ((c .before .before .pre .range) _ (some ((c .before .if1 .left))))
+slice-read-count c = ((c .before .before .pre .range) _ (names-cell ((c .before .if1 .left))))
 
 add-count : tie.Need-add-count
-add-count c = omega (arith, ((c .before .before .pre .fits) _ (some ((c .before .if1 .left)))))
+add-count c = omega (arith, ((c .before .before .pre .fits16) _ (names-cell ((c .before .if1 .left)))))
 
 slice-write-count : tie.Need-slice-write-count
-slice-write-count c = ((c .before .before .pre .range) _ (some ((c .before .if1 .left))))
+slice-write-count c = ((c .before .before .pre .range) _ (names-cell ((c .before .if1 .left))))
 
 same-length : tie.Need-same-length
 same-length c = search needs

@@ -17,13 +17,19 @@ mul-if1 : tie.Need-mul-if1
 mul-if1 c = search needs
 
 shared-slice-read-if1 : tie.Need-shared-slice-read-if1
-shared-slice-read-if1 c = omega (arith, range _ _ _ _ _ _ _ _ (named-due _ _ _ _ _ _ _ _ (c .before .pre .due) (λ z. omega (arith, c .before .pre .some))), c .before .pre .due .balanced .fit .flags-size)
+shared-slice-read-if1 c = omega (
+  arith,
+  range _ _ _ _ _ _ _ _ (named-due _ _ _ _ _ _ _ _ (c .before .pre .due) (λ z. omega (arith, c .before .pre .some))),
+  c .before .pre .due .balanced .fit .flags-size,
+)
 
 mul-if2 : tie.Need-mul-if2
 mul-if2 c = search needs
 
 shared-slice-read-if2 : tie.Need-shared-slice-read-if2
-shared-slice-read-if2 c = range _ _ _ _ _ _ _ _ (named-due _ _ _ _ _ _ _ _ (c .before .before .before .pre .due) (λ z. omega (arith, c .before .before .before .pre .some)))
+shared-slice-read-if2 c =
+    let entry = c .before .before .before in
+    range _ _ _ _ _ _ _ _ (named-due _ _ _ _ _ _ _ _ (entry .pre .due) (λ z. omega (arith, entry .pre .some)))
 
 slice-read-length : tie.Need-slice-read-length
 slice-read-length c = search needs
@@ -35,10 +41,14 @@ mul-queue : tie.Need-mul-queue
 mul-queue c = search needs
 
 returns : tie.Need-returns
-returns c = queues _ _ _ _ _ _ _ (tail-fits _ _ _ _ _ _ _ _ (c .before .before .before .before .before .pre .due)) _ (λ z. omega (arith, c .before .before .before .before .before .pre .some)) (c .before .before .before .before .before .pre .last) (c .before .if2 .taken) (c .before .before .before .if1 .taken)
+returns c =
+    let entry = c .before .before .before .before .before in
+    queues _ _ _ _ _ _ _ (tail-fits _ _ _ _ _ _ _ _ (entry .pre .due)) _ (λ z. omega (arith, entry .pre .some)) (entry .pre .last) (c .before .if2 .taken) (c .before .before .before .if1 .taken)
 
 slice-write-queue : tie.Need-slice-write-queue
-slice-write-queue c = queue-free _ _ _ _ _ _ _ _ (named-due _ _ _ _ _ _ _ _ (c .before .before .before .before .before .pre .due) (λ z. omega (arith, c .before .before .before .before .before .pre .some))) (c .before .before .before .before .before .pre .last)
+slice-write-queue c =
+    let entry = c .before .before .before .before .before in
+    queue-free _ _ _ _ _ _ _ _ (named-due _ _ _ _ _ _ _ _ (entry .pre .due) (λ z. omega (arith, entry .pre .some))) (entry .pre .last)
 
 add-control : tie.Need-add-control
 add-control c = search needs
@@ -56,7 +66,11 @@ mul-count : tie.Need-mul-count
 mul-count c = search needs
 
 slice-write-count : tie.Need-slice-write-count
-slice-write-count c = omega (arith, range _ _ _ _ _ _ _ _ (named-due _ _ _ _ _ _ _ _ (c .before .before .pre .due) (λ z. omega (arith, c .before .before .pre .some))), c .before .before .pre .due .balanced .fit .count-size)
+slice-write-count c = omega (
+  arith,
+  range _ _ _ _ _ _ _ _ (named-due _ _ _ _ _ _ _ _ (c .before .before .pre .due) (λ z. omega (arith, c .before .before .pre .some))),
+  c .before .before .pre .due .balanced .fit .count-size,
+)
 
 mul-work : tie.Need-mul-work
 mul-work c = omega (arith, work-free _ _ _ _ _ _ _ _ (named-due _ _ _ _ _ _ _ _ (c .before .before .pre .due) (λ z. omega (arith, c .before .before .pre .some))), c .before .before .pre .due .room)

@@ -5,14 +5,14 @@ use mathlib.Core.List.{[]}
 use mathlib.Core.Path.{refl, _∙_}
 use lib.ListN.{replicate, length-replicate}
 use Rattle.release.proofs.Due.{named-due, range}
-use Rattle.release.proofs.Step.{none, many}
+use Rattle.release.proofs.Step.{came-off-none, many}
 use Rattle.release.proofs.Released.{fit-of, first-due, then-drain, at-once, drainable}
 use borrow.Author.Needs.{needs}
 use Rattle.release.proofs.release.Statement.{statement}
 use Rattle.release.proofs.release.Tie as tie
 
 returns : tie.Need-returns
-returns c = at-once _ _ _ _ _ _ _ _ _ _ [] [] 0 (none _ _ _ _ _ [] 0 (omega arith) _ (c .if1 .taken)) refl
+returns c = at-once _ _ _ _ _ _ _ _ _ _ [] [] 0 (came-off-none _ _ _ _ _ [] 0 (omega arith) _ (c .if1 .taken)) refl
 
 sub-c : tie.Need-sub-c
 sub-c c = search needs
@@ -24,7 +24,13 @@ mul-n : tie.Need-mul-n
 mul-n c = search needs
 
 slice-read-n : tie.Need-slice-read-n
-slice-read-n c = omega (arith, range _ _ _ _ _ _ _ _ (named-due _ _ _ _ _ _ _ _ (first-due _ _ _ _ _ _ _ (replicate 1024 0) (length-replicate {A = ℕ} 1024 0) (c .before .before .before .before .before .before .before .before .pre)) (c .before .if1 .left)), fit-of _ _ _ _ _ _ _ (c .before .before .before .before .before .before .before .before .pre) .count-size)
+slice-read-n c =
+    let entry = c .before .before .before .before .before .before .before .before in
+    omega (
+      arith,
+      range _ _ _ _ _ _ _ _ (named-due _ _ _ _ _ _ _ _ (first-due _ _ _ _ _ _ _ (replicate 1024 0) (length-replicate {A = ℕ} 1024 0) (entry .pre)) (c .before .if1 .left)),
+      fit-of _ _ _ _ _ _ _ (entry .pre) .count-size,
+    )
 
 sub-count : tie.Need-sub-count
 sub-count c = search needs
@@ -33,7 +39,13 @@ mul-count : tie.Need-mul-count
 mul-count c = search needs
 
 slice-write-count : tie.Need-slice-write-count
-slice-write-count c = omega (arith, range _ _ _ _ _ _ _ _ (named-due _ _ _ _ _ _ _ _ (first-due _ _ _ _ _ _ _ (replicate 1024 0) (length-replicate {A = ℕ} 1024 0) (c .before .before .before .before .before .before .before .before .before .pre)) (c .before .before .if1 .left)), fit-of _ _ _ _ _ _ _ (c .before .before .before .before .before .before .before .before .before .pre) .count-size)
+slice-write-count c =
+    let entry = c .before .before .before .before .before .before .before .before .before in
+    omega (
+      arith,
+      range _ _ _ _ _ _ _ _ (named-due _ _ _ _ _ _ _ _ (first-due _ _ _ _ _ _ _ (replicate 1024 0) (length-replicate {A = ℕ} 1024 0) (entry .pre)) (c .before .before .if1 .left)),
+      fit-of _ _ _ _ _ _ _ (entry .pre) .count-size,
+    )
 
 same-length : tie.Need-same-length
 same-length c = search needs
@@ -45,15 +57,20 @@ slice-aggregate-decref : tie.Need-slice-aggregate-decref
 slice-aggregate-decref c = search needs
 
 decref-requires : tie.Need-decref-requires
-decref-requires c κs = first-due _ _ _ _ _ _ _ _ (length-replicate {A = ℕ} 1024 0) (c .before .before .before .before .before .before .before .before .before .before .before .before .before .before .before .pre)
+decref-requires c κs =
+    let entry = c .before .before .before .before .before .before .before .before .before .before .before .before .before .before .before in
+    first-due _ _ _ _ _ _ _ _ (length-replicate {A = ℕ} 1024 0) (entry .pre)
 
 slice-aggregate-drain : tie.Need-slice-aggregate-drain
 slice-aggregate-drain c = search needs
 
 drain-requires : tie.Need-drain-requires
 drain-requires c κs =
-    let d = (c .before .before .before .before .before .before .before .before .before .before .before .before .before .before .decref) in
-    drainable _ _ _ _ _ _ _ _ _ _ _ _ _ (d .ensures) (c .before .before .before .before .before .before .before .before .before .before .before .before .before .before .before .before .before .before .before .before .before .before .before .before .before .before .before .before .before .before .pre) (d .kept .1 .1 .1 .1 .1 .0 ∙ length-replicate {A = ℕ} 1024 0)
+    let entry =
+    c .before .before .before .before .before .before .before .before .before .before .before .before .before .before .before .before .before .before
+    .before .before .before .before .before .before .before .before .before .before .before .before in
+    let d = c .before .before .before .before .before .before .before .before .before .before .before .before .before .before .decref in
+    drainable _ _ _ _ _ _ _ _ _ _ _ _ _ (d .ensures) (entry .pre) (d .kept .1 .1 .1 .1 .1 .0 ∙ length-replicate {A = ℕ} 1024 0)
 
 same-length-2 : tie.Need-same-length-2
 same-length-2 c = search needs
@@ -74,7 +91,12 @@ same-length-7 : tie.Need-same-length-7
 same-length-7 c = search needs
 
 returns-3 : tie.Need-returns-3
-returns-3 c = then-drain _ _ _ _ _ _ _ _ _ _ _ _ _ (c .before .before .before .before .before .before .before .before .before .before .before .before .before .before .before .before .before .before .before .before .before .before .before .before .before .before .before .before .decref .ensures) _ _ _ _ _ _ _ (c .before .before .before .before .before .before .before .before .before .before .before .before .before .drain .ensures)
+returns-3 c =
+    let decref =
+    c .before .before .before .before .before .before .before .before .before .before .before .before .before .before .before .before .before .before
+    .before .before .before .before .before .before .before .before .before .before .decref in
+    let drain = c .before .before .before .before .before .before .before .before .before .before .before .before .before .drain in
+    then-drain _ _ _ _ _ _ _ _ _ _ _ _ _ (decref .ensures) _ _ _ _ _ _ _ (drain .ensures)
 
 pub release-spec : {M : Type 1} → statement M
 release-spec =

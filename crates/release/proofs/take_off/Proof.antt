@@ -10,13 +10,27 @@ slice-read-before : tie.Need-slice-read-before
 slice-read-before c = omega (arith, fit-of _ _ _ _ _ _ _ (c .before .before .before .before .before .before .before .pre) .control-size)
 
 release-requires : tie.Need-release-requires
-release-requires c κs = c .before .before .before .before .before .before .before .before .before .before .before .before .before .pre
+release-requires c κs =
+    let entry = c .before .before .before .before .before .before .before .before .before .before .before .before .before in
+    entry .pre
 
 slice-read-after : tie.Need-slice-read-after
-slice-read-after c = omega (arith, fit-of _ _ _ _ _ _ _ (c .before .before .before .before .before .before .before .before .before .before .before .before .before .before .before .before .before .before .before .before .before .before .before .before .before .before .before .pre) .control-size, c .before .before .before .before .before .before .before .before .before .before .before .before .before .release .kept .1 .1 .1 .1 .1 .0)
+slice-read-after c =
+    let entry =
+    c .before .before .before .before .before .before .before .before .before .before .before .before .before .before .before .before .before .before
+    .before .before .before .before .before .before .before .before .before in
+    omega (
+      arith,
+      fit-of _ _ _ _ _ _ _ (entry .pre) .control-size,
+      c .before .before .before .before .before .before .before .before .before .before .before .before .before .release .kept .1 .1 .1 .1 .1 .0,
+    )
 
 sub-t12 : tie.Need-sub-t12
-sub-t12 c = omega (arith, queue-grows _ _ _ _ _ _ _ (c .before .before .before .before .before .before .before .before .before .before .before .before .before .before .before .before .before .before .before .before .before .before .before .before .before .before .before .pre) _ _ _ _ _ _ _ (c .before .before .before .before .before .before .before .before .before .before .before .before .before .release .ensures))
+sub-t12 c =
+    let entry =
+    c .before .before .before .before .before .before .before .before .before .before .before .before .before .before .before .before .before .before
+    .before .before .before .before .before .before .before .before .before in
+    omega (arith, queue-grows _ _ _ _ _ _ _ (entry .pre) _ _ _ _ _ _ _ (c .before .before .before .before .before .before .before .before .before .before .before .before .before .release .ensures))
 
 same-length : tie.Need-same-length
 same-length c = search needs
@@ -37,7 +51,11 @@ same-length-6 : tie.Need-same-length-6
 same-length-6 c = search needs
 
 returns : tie.Need-returns
-returns c = took _ _ _ _ _ _ _ (c .before .before .before .before .before .before .before .before .before .before .before .before .before .before .before .before .before .before .before .before .before .before .before .before .before .before .before .pre) _ _ _ _ _ _ _ (c .before .before .before .before .before .before .before .before .before .before .before .before .before .release .ensures)
+returns c =
+    let entry =
+    c .before .before .before .before .before .before .before .before .before .before .before .before .before .before .before .before .before .before
+    .before .before .before .before .before .before .before .before .before in
+    took _ _ _ _ _ _ _ (entry .pre) _ _ _ _ _ _ _ (c .before .before .before .before .before .before .before .before .before .before .before .before .before .release .ensures)
 
 pub take-off-spec : {M : Type 1} → statement M
 take-off-spec =

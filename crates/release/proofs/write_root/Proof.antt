@@ -15,10 +15,17 @@ slice-read-old-root : tie.Need-slice-read-old-root
 slice-read-old-root c = search needs
 
 take-off-requires : tie.Need-take-off-requires
-take-off-requires c κs = root-ready _ _ _ _ _ _ _ _ _ (c .before .before .before .before .before .before .before .before .before .before .before .before .before .before .before .before .before .before .before .pre) _ (c .before .before .before .before .before .before .before .before .before .before .before .index .ensures) _ (c .before .before .before .before .before .before .before .before .incref .ensures)
+take-off-requires c κs =
+    let entry = c .before .before .before .before .before .before .before .before .before .before .before .before .before .before .before .before .before .before .before in
+    root-ready _ _ _ _ _ _ _ _ _
+    (entry .pre) _
+    (c .before .before .before .before .before .before .before .before .before .before .before .index .ensures) _
+    (c .before .before .before .before .before .before .before .before .incref .ensures)
 
 incref-requires : tie.Need-incref-requires
-incref-requires c κs = raisable (tables _ _ _ _ _ _ _) _ (c .before .before .before .before .before .before .before .before .before .before .pre .sound) (c .before .before .before .before .before .before .before .before .before .before .pre .used)
+incref-requires c κs =
+    let entry = c .before .before .before .before .before .before .before .before .before .before in
+    raisable (tables _ _ _ _ _ _ _) _ (entry .pre .sound) (entry .pre .used)
 
 mul-roots : tie.Need-mul-roots
 mul-roots c = search needs
@@ -48,7 +55,16 @@ same-length-7 : tie.Need-same-length-7
 same-length-7 c = search needs
 
 returns : tie.Need-returns
-returns c = root-done _ _ _ _ _ _ _ _ _ (c .before .before .before .before .before .before .before .before .before .before .before .before .before .before .before .before .before .before .before .before .before .before .before .before .before .before .before .before .before .before .before .before .pre) _ (c .before .before .before .before .before .before .before .before .before .before .before .before .before .before .before .before .before .before .before .before .before .before .before .before .index .ensures) _ (c .before .before .before .before .before .before .before .before .before .before .before .before .before .before .before .before .before .before .before .before .before .incref .ensures) _ _ _ _ _ _ _ (c .before .before .before .before .before .before .before .before .before .before .before .before .take-off .ensures)
+returns c =
+    let entry =
+    c .before .before .before .before .before .before .before .before .before .before .before .before .before .before .before .before .before .before
+    .before .before .before .before .before .before .before .before .before .before .before .before .before .before in
+    let index =
+    c .before .before .before .before .before .before .before .before .before .before .before .before .before .before .before .before .before .before
+    .before .before .before .before .before .before .index in
+    let incref = c .before .before .before .before .before .before .before .before .before .before .before .before .before .before .before .before .before .before .before .before .before .incref in
+    let take-off = c .before .before .before .before .before .before .before .before .before .before .before .before .take-off in
+    root-done _ _ _ _ _ _ _ _ _ (entry .pre) _ (index .ensures) _ (incref .ensures) _ _ _ _ _ _ _ (take-off .ensures)
 
 pub write-root-spec : {M : Type 1} → statement M
 write-root-spec =

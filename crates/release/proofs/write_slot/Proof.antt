@@ -23,25 +23,52 @@ index-requires-2 : tie.Need-index-requires-2
 index-requires-2 c κs = search needs
 
 add-i : tie.Need-add-i
-add-i c = omega (arith, c .before .index .ensures, c .index2 .ensures, cell-small _ _ _ _ _ _ _ _ _ (c .before .before .before .before .before .before .before .before .pre), c .before .before .before .before .before .before .before .before .pre .small)
+add-i c =
+    let entry = c .before .before .before .before .before .before .before .before in
+    omega (arith, c .before .index .ensures, c .index2 .ensures, cell-small _ _ _ _ _ _ _ _ _ (entry .pre), entry .pre .small)
 
 mul-old-slot : tie.Need-mul-old-slot
-mul-old-slot c = omega (arith, c .before .index .ensures, c .index2 .ensures, cell-small _ _ _ _ _ _ _ _ _ (c .before .before .before .before .before .before .before .before .pre), c .before .before .before .before .before .before .before .before .pre .small)
+mul-old-slot c =
+    let entry = c .before .before .before .before .before .before .before .before in
+    omega (arith, c .before .index .ensures, c .index2 .ensures, cell-small _ _ _ _ _ _ _ _ _ (entry .pre), entry .pre .small)
 
 slice-read-old-slot : tie.Need-slice-read-old-slot
-slice-read-old-slot c = omega (arith, c .before .before .index .ensures, c .before .index2 .ensures, slot-range _ _ _ _ _ _ _ _ _ (c .before .before .before .before .before .before .before .before .before .pre))
+slice-read-old-slot c = omega (
+  arith,
+  c .before .before .index .ensures,
+  c .before .index2 .ensures,
+  slot-range _ _ _ _ _ _ _ _ _ (c .before .before .before .before .before .before .before .before .before .pre),
+)
 
 incref-requires : tie.Need-incref-requires
-incref-requires c κs = raisable (tables _ _ _ _ _ _ _) _ (c .before .before .before .before .before .before .before .before .before .before .pre .sound) (c .before .before .before .before .before .before .before .before .before .before .pre .used)
+incref-requires c κs =
+    let entry = c .before .before .before .before .before .before .before .before .before .before in
+    raisable (tables _ _ _ _ _ _ _) _ (entry .pre .sound) (entry .pre .used)
 
 mul-slots : tie.Need-mul-slots
-mul-slots c = omega (arith, c .before .before .before .before .before .before .index .ensures, c .before .before .before .before .before .index2 .ensures, cell-small _ _ _ _ _ _ _ _ _ (c .before .before .before .before .before .before .before .before .before .before .before .before .before .pre), c .before .before .before .before .before .before .before .before .before .before .before .before .before .pre .small)
+mul-slots c =
+    let entry = c .before .before .before .before .before .before .before .before .before .before .before .before .before in
+    omega (
+      arith,
+      c .before .before .before .before .before .before .index .ensures,
+      c .before .before .before .before .before .index2 .ensures,
+      cell-small _ _ _ _ _ _ _ _ _ (entry .pre),
+      entry .pre .small,
+    )
 
 slice-write-slots : tie.Need-slice-write-slots
-slice-write-slots c = omega (arith, c .before .before .before .before .before .before .index .ensures, c .before .before .before .before .before .index2 .ensures, slot-range _ _ _ _ _ _ _ _ _ (c .before .before .before .before .before .before .before .before .before .before .before .before .before .pre))
+slice-write-slots c =
+    let entry = c .before .before .before .before .before .before .before .before .before .before .before .before .before in
+    omega (arith, c .before .before .before .before .before .before .index .ensures, c .before .before .before .before .before .index2 .ensures, slot-range _ _ _ _ _ _ _ _ _ (entry .pre))
 
 take-off-requires : tie.Need-take-off-requires
-take-off-requires c κs = slot-ready _ _ _ _ _ _ _ _ _ (c .before .before .before .before .before .before .before .before .before .before .before .before .before .before .before .before .before .before .before .pre) _ (place (c .before .before .before .before .before .before .before .before .before .before .before .before .index .ensures) (c .before .before .before .before .before .before .before .before .before .before .before .index2 .ensures)) _ (c .before .before .before .before .before .before .before .before .incref .ensures)
+take-off-requires c κs =
+    let entry = c .before .before .before .before .before .before .before .before .before .before .before .before .before .before .before .before .before .before .before in
+    let index = c .before .before .before .before .before .before .before .before .before .before .before .before .index in
+    slot-ready _ _ _ _ _ _ _ _ _
+    (entry .pre) _
+    (place (index .ensures) (c .before .before .before .before .before .before .before .before .before .before .before .index2 .ensures)) _
+    (c .before .before .before .before .before .before .before .before .incref .ensures)
 
 same-length : tie.Need-same-length
 same-length c = search needs
@@ -54,8 +81,17 @@ same-length-3 c = search needs
 
 same-length-4 : tie.Need-same-length-4
 same-length-4 c =
-    let a = (c .before .before .before .before .before .before .before .before .before .before .before .before .before .before .before .before .before .before .before .before .before .before .before .before .before .before .before .before .before .before .before .before .args) in
-    (c .before .before .before .before .before .before .before .before .before .before .before .before .take-off .kept .1 .1 .1 .0) ∙ length-set (a .slots .now) (8 * (c .before .before .before .before .before .before .before .before .before .before .before .before .before .before .before .before .before .before .before .before .before .before .before .before .before .index .result) + (c .before .before .before .before .before .before .before .before .before .before .before .before .before .before .before .before .before .before .before .before .before .before .before .before .index2 .result)) (a .r)
+    let index =
+    c .before .before .before .before .before .before .before .before .before .before .before .before .before .before .before .before .before .before
+    .before .before .before .before .before .before .before .index in
+    let index2 =
+    c .before .before .before .before .before .before .before .before .before .before .before .before .before .before .before .before .before .before
+    .before .before .before .before .before .before .index2 in
+    let take-off = c .before .before .before .before .before .before .before .before .before .before .before .before .take-off in
+    let a =
+    c .before .before .before .before .before .before .before .before .before .before .before .before .before .before .before .before .before .before
+    .before .before .before .before .before .before .before .before .before .before .before .before .before .before .args in
+    (take-off .kept .1 .1 .1 .0) ∙ length-set (a .slots .now) (8 * (index .result) + (index2 .result)) (a .r)
 
 same-length-5 : tie.Need-same-length-5
 same-length-5 c = search needs
@@ -64,7 +100,19 @@ same-length-6 : tie.Need-same-length-6
 same-length-6 c = search needs
 
 returns : tie.Need-returns
-returns c = slot-done _ _ _ _ _ _ _ _ _ (c .before .before .before .before .before .before .before .before .before .before .before .before .before .before .before .before .before .before .before .before .before .before .before .before .before .before .before .before .before .before .before .before .pre) _ (place (c .before .before .before .before .before .before .before .before .before .before .before .before .before .before .before .before .before .before .before .before .before .before .before .before .before .index .ensures) (c .before .before .before .before .before .before .before .before .before .before .before .before .before .before .before .before .before .before .before .before .before .before .before .before .index2 .ensures)) _ (c .before .before .before .before .before .before .before .before .before .before .before .before .before .before .before .before .before .before .before .before .before .incref .ensures) _ _ _ _ _ _ _ (c .before .before .before .before .before .before .before .before .before .before .before .before .take-off .ensures)
+returns c =
+    let entry =
+    c .before .before .before .before .before .before .before .before .before .before .before .before .before .before .before .before .before .before
+    .before .before .before .before .before .before .before .before .before .before .before .before .before .before in
+    let index =
+    c .before .before .before .before .before .before .before .before .before .before .before .before .before .before .before .before .before .before
+    .before .before .before .before .before .before .before .index in
+    let index2 =
+    c .before .before .before .before .before .before .before .before .before .before .before .before .before .before .before .before .before .before
+    .before .before .before .before .before .before .index2 in
+    let incref = c .before .before .before .before .before .before .before .before .before .before .before .before .before .before .before .before .before .before .before .before .before .incref in
+    let take-off = c .before .before .before .before .before .before .before .before .before .before .before .before .take-off in
+    slot-done _ _ _ _ _ _ _ _ _ (entry .pre) _ (place (index .ensures) (index2 .ensures)) _ (incref .ensures) _ _ _ _ _ _ _ (take-off .ensures)
 
 pub write-slot-spec : {M : Type 1} → statement M
 write-slot-spec =

@@ -8,7 +8,7 @@ use lib.ListN.{length, getD}
 use mathlib.Core.Logic.{⊎-elim}
 use mathlib.Core.Path.{sym, _∙_}
 use native.Mathlib.Omega.{arith}
-use Rattle.soundness.proofs.Misses.{Misses, begin, pass, miss, done, entries-all}
+use Rattle.soundness.proofs.Misses.{Misses, misses-begin, pass, miss, misses-done, entries-all}
 use Rattle.soundness.proofs.all_zero.Statement.{statement}
 use Rattle.soundness.proofs.all_zero.Tie as tie
 
@@ -19,7 +19,7 @@ abbrev μ-loop : tie.MeasureT-loop
 μ-loop table wrong₀ i₀ wrong i = length table - i
 
 loop-holds : tie.Need-loop-holds Inv-loop μ-loop
-loop-holds c = begin _ _
+loop-holds c = misses-begin _ _
 
 mul-if1 : tie.Need-mul-if1 Inv-loop μ-loop
 mul-if1 c = search needs
@@ -37,10 +37,15 @@ loop-less : tie.Need-loop-less Inv-loop μ-loop
 loop-less c = search needs
 
 loop-again : tie.Need-loop-again Inv-loop μ-loop
-loop-again c = ⊎-elim (λ w. miss (c .before .before .before .loop .inv) _ (c .before .before .loop-test .taken) (ne-eqb _ _ (λ e. w .0 .taken (sym e))) (w .1)) (λ w. pass (c .before .before .before .loop .inv) _ (c .before .before .loop-test .taken) (eq-eqb _ _ (sym (w .0 .left))) (w .1)) (c .if1 .came)
+loop-again c =
+    let loop = c .before .before .before .loop in
+    ⊎-elim
+    (λ w. miss (loop .inv) _ (c .before .before .loop-test .taken) (ne-eqb _ _ (λ e. w .0 .taken (sym e))) (w .1))
+    (λ w. pass (loop .inv) _ (c .before .before .loop-test .taken) (eq-eqb _ _ (sym (w .0 .left))) (w .1))
+    (c .if1 .came)
 
 returns : tie.Need-returns Inv-loop μ-loop
-returns c = done (c .before .loop .inv) (c .loop-test .left) ∙ entries-all (eqb 0) _
+returns c = misses-done (c .before .loop .inv) (c .loop-test .left) ∙ entries-all (eqb 0) _
 
 pub all-zero-spec : {M : Type 1} → statement M
 all-zero-spec =

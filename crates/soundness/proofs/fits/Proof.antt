@@ -4,7 +4,7 @@ use borrow.Author.Needs.{needs}
 use borrow.Author.Tests.{eqb-true, eq-eqb}
 use mathlib.Core.Path.{sym}
 use native.Mathlib.Omega.{arith}
-use Rattle.laws.specs.Lists.Tests.{same}
+use Rattle.laws.specs.Lists.Tests.{tests-agree}
 use Rattle.laws.specs.Sound.Reflect.{unfit, fits-sized, sized-fits}
 use Rattle.soundness.proofs.fits.Statement.{statement}
 use Rattle.soundness.proofs.fits.Tie as tie
@@ -34,7 +34,21 @@ returns-7 : tie.Need-returns-7
 returns-7 c = sym (unfit _ (λ z. (c .if7 .taken) (z .queue)))
 
 returns-8 : tie.Need-returns-8
-returns-8 c = same _ _ (λ t. sized-fits _ (record { least = search needs; most = (c .before .before .before .before .before .if2 .left); flags = (c .before .before .before .before .if3 .left); count = (c .before .before .before .if4 .left); slots = (c .before .before .if5 .left); roots = (c .before .if6 .left); queue = (c .if7 .left); control = eqb-true _ _ t })) (λ f. eq-eqb _ _ (fits-sized _ f .control))
+returns-8 c =
+    tests-agree _ _
+    (λ t.
+    sized-fits _
+    (record {
+      least = search needs;
+      most = (c .before .before .before .before .before .if2 .left);
+      flags = (c .before .before .before .before .if3 .left);
+      count = (c .before .before .before .if4 .left);
+      slots = (c .before .before .if5 .left);
+      roots = (c .before .if6 .left);
+      queue = (c .if7 .left);
+      control = eqb-true _ _ t;
+    }))
+    (λ f. eq-eqb _ _ (fits-sized _ f .control))
 
 pub fits-spec : {M : Type 1} → statement M
 fits-spec =

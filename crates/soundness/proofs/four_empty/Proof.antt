@@ -2,7 +2,7 @@
 -- Assumes nothing.
 use borrow.Author.Needs.{needs}
 use mathlib.Core.Path.{sym}
-use Rattle.soundness.proofs.Cells.{four-used, four}
+use Rattle.soundness.proofs.Cells.{four-used, four-empty}
 use Rattle.soundness.proofs.four_empty.Statement.{statement}
 use Rattle.soundness.proofs.four_empty.Tie as tie
 
@@ -22,7 +22,7 @@ shared-slice-read-result-3 : tie.Need-shared-slice-read-result-3
 shared-slice-read-result-3 c = search needs
 
 returns-2 : tie.Need-returns-2
-returns-2 c = four _ (c .before .before .before .before .before .pre) (c .before .before .before .if1 .left)
+returns-2 c = four-empty _ (c .before .before .before .before .before .pre) (c .before .before .before .if1 .left)
 
 pub four-empty-spec : {M : Type 1} → statement M
 four-empty-spec =

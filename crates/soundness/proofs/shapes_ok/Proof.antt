@@ -7,7 +7,7 @@ use lib.ListN.{length}
 use mathlib.Core.Logic.{⊎-elim}
 use mathlib.Core.Path.{sym, _∙_}
 use native.Mathlib.Omega.{arith}
-use Rattle.soundness.proofs.Misses.{Misses, begin, pass, miss, done}
+use Rattle.soundness.proofs.Misses.{Misses, misses-begin, pass, miss, misses-done}
 use Rattle.soundness.specs.Tests.{shapeAt}
 use Rattle.soundness.proofs.shapes_ok.Statement.{statement}
 use Rattle.soundness.proofs.shapes_ok.Tie as tie
@@ -19,7 +19,7 @@ abbrev μ-loop : tie.MeasureT-loop
 μ-loop kind flags queued wrong₀ c₀ wrong c = length kind - c
 
 loop-holds : tie.Need-loop-holds Inv-loop μ-loop
-loop-holds c = begin _ _
+loop-holds c = misses-begin _ _
 
 mul-shape-ok : tie.Need-mul-shape-ok Inv-loop μ-loop
 mul-shape-ok c = search needs
@@ -52,10 +52,16 @@ loop-less : tie.Need-loop-less Inv-loop μ-loop
 loop-less c = search needs
 
 loop-again : tie.Need-loop-again Inv-loop μ-loop
-loop-again c = ⊎-elim (λ w. miss (c .before .before .before .before .before .before .loop .inv) _ (c .before .before .before .before .before .loop-test .taken) (sym (c .before .shape-ok .ensures) ∙ not-true _ (w .0 .taken)) (w .1)) (λ w. pass (c .before .before .before .before .before .before .loop .inv) _ (c .before .before .before .before .before .loop-test .taken) (sym (c .before .shape-ok .ensures) ∙ not-false _ (w .0 .left)) (w .1)) (c .if1 .came)
+loop-again c =
+    let loop = c .before .before .before .before .before .before .loop in
+    let loop-test = c .before .before .before .before .before .loop-test in
+    ⊎-elim
+    (λ w. miss (loop .inv) _ (loop-test .taken) (sym (c .before .shape-ok .ensures) ∙ not-true _ (w .0 .taken)) (w .1))
+    (λ w. pass (loop .inv) _ (loop-test .taken) (sym (c .before .shape-ok .ensures) ∙ not-false _ (w .0 .left)) (w .1))
+    (c .if1 .came)
 
 returns : tie.Need-returns Inv-loop μ-loop
-returns c = done (c .before .loop .inv) (c .loop-test .left)
+returns c = misses-done (c .before .loop .inv) (c .loop-test .left)
 
 pub shapes-ok-spec : {M : Type 1} → statement M
 shapes-ok-spec =

@@ -48,13 +48,19 @@ part-all-zero-end : tie.Need-part-all-zero-end
 part-all-zero-end c = search needs
 
 all-zero-requires : tie.Need-all-zero-requires
-all-zero-requires c κs = part-most (c .before .before .before .before .before .before .before .before .before .before .before .before .before .before .args .queue .now) _ 1024 (omega (arith, (c .before .before .before .before .before .before .before .before .before .before .before .before .before .before .pre .queue), (c .before .before .before .before .before .before .before .before .before .before .before .before .before .before .pre .most)))
+all-zero-requires c κs =
+    let entry = c .before .before .before .before .before .before .before .before .before .before .before .before .before .before in
+    part-most (entry .args .queue .now) _ 1024 (omega (arith, (entry .pre .queue), (entry .pre .most)))
 
 returns-3 : tie.Need-returns-3
-returns-3 c = sym (bad-rest _ (ap (all (eqb 0)) (sym (part-rest (c .before .before .before .before .before .before .before .before .before .before .before .before .before .before .before .before .args .queue .now) (getD (c .before .before .before .before .before .before .before .before .before .before .before .before .before .before .before .before .args .control .now) 0 0))) ∙ sym (c .before .all-zero .ensures) ∙ not-true _ (c .if3 .taken)))
+returns-3 c =
+    let entry = c .before .before .before .before .before .before .before .before .before .before .before .before .before .before .before .before in
+    sym (bad-rest _ (ap (all (eqb 0)) (sym (part-rest (entry .args .queue .now) (getD (entry .args .control .now) 0 0))) ∙ sym (c .before .all-zero .ensures) ∙ not-true _ (c .if3 .taken)))
 
 slice-aggregate-entries : tie.Need-slice-aggregate-entries
-slice-aggregate-entries c = sym (length-take-le _ _ (omega (arith, (c .before .before .before .before .before .before .before .before .if1 .left), (c .before .before .before .before .before .before .before .before .before .before .before .before .before .before .before .before .before .pre .queue))))
+slice-aggregate-entries c =
+    let entry = c .before .before .before .before .before .before .before .before .before .before .before .before .before .before .before .before .before in
+    sym (length-take-le _ _ (omega (arith, (c .before .before .before .before .before .before .before .before .if1 .left), (entry .pre .queue))))
 
 add-end : tie.Need-add-end
 add-end c = search needs
@@ -63,13 +69,26 @@ array-borrow-prefix-tally : tie.Need-array-borrow-prefix-tally
 array-borrow-prefix-tally c = search needs
 
 slice-aggregate-tally-ok : tie.Need-slice-aggregate-tally-ok
-slice-aggregate-tally-ok c = sym (clear-length (length (c .before .before .before .before .before .before .before .before .before .before .before .before .before .before .before .before .before .before .args .kind .now) + 1) 1025 (omega (arith, (c .before .before .before .before .before .before .before .before .before .before .before .before .before .before .before .before .before .before .pre .most))))
+slice-aggregate-tally-ok c =
+    let entry = c .before .before .before .before .before .before .before .before .before .before .before .before .before .before .before .before .before .before in
+    sym (clear-length (length (entry .args .kind .now) + 1) 1025 (omega (arith, (entry .pre .most))))
 
 tally-ok-requires : tie.Need-tally-ok-requires
-tally-ok-requires c κs = scratch _ 1025 (c .before .before .before .before .before .before .before .before .before .before .before .before .before .before .before .before .before .before .pre) (omega arith) (c .before .before .before .before .before .before .before .before .before .if1 .left)
+tally-ok-requires c κs =
+    let entry = c .before .before .before .before .before .before .before .before .before .before .before .before .before .before .before .before .before .before in
+    scratch _ 1025 (entry .pre) (omega arith) (c .before .before .before .before .before .before .before .before .before .if1 .left)
 
 returns-4 : tie.Need-returns-4
-returns-4 c = (c .before .tally-ok .ensures) ∙ sym (by-tally _ (c .before .before .before .before .before .before .before .before .before .before .before .before .before .before .before .before .before .before .before .before .pre) (c .before .before .before .before .before .before .before .before .before .before .before .if1 .left) (sym (c .before .before .before .before .before .before .before .before .running-ok .ensures) ∙ not-false _ (c .before .before .before .before .before .before .before .if2 .left)) (ap (all (eqb 0)) (sym (part-rest (c .before .before .before .before .before .before .before .before .before .before .before .before .before .before .before .before .before .before .before .before .args .queue .now) (getD (c .before .before .before .before .before .before .before .before .before .before .before .before .before .before .before .before .before .before .before .before .args .control .now) 0 0))) ∙ sym (c .before .before .before .before .before .all-zero .ensures) ∙ not-false _ (c .before .before .before .before .if3 .left)))
+returns-4 c =
+    let entry = c .before .before .before .before .before .before .before .before .before .before .before .before .before .before .before .before .before .before .before .before in
+    (c .before .tally-ok .ensures)
+    ∙ sym
+    (by-tally _
+    (entry .pre)
+    (c .before .before .before .before .before .before .before .before .before .before .before .if1 .left)
+    (sym (c .before .before .before .before .before .before .before .before .running-ok .ensures) ∙ not-false _ (c .before .before .before .before .before .before .before .if2 .left))
+    (ap (all (eqb 0)) (sym (part-rest (entry .args .queue .now) (getD (entry .args .control .now) 0 0)))
+    ∙ sym (c .before .before .before .before .before .all-zero .ensures) ∙ not-false _ (c .before .before .before .before .if3 .left)))
 
 pub sound-spec : {M : Type 1} → statement M
 sound-spec =

@@ -5,7 +5,7 @@ use borrow.Author.Needs.{needs}
 use lib.ListN.{length}
 use mathlib.Core.Path.{_≡_, refl}
 use native.Mathlib.Omega.{arith}
-use Rattle.soundness.proofs.Tallying.{Tallying, begin, four-long, room-here, turn, done}
+use Rattle.soundness.proofs.Tallying.{Tallying, tallying-begin, four-long, room-here, tallying-turn, tallying-done}
 use Rattle.soundness.proofs.tally_all.Statement.{statement}
 use Rattle.soundness.proofs.tally_all.Tie as tie
 
@@ -16,7 +16,7 @@ abbrev μ-loop : tie.MeasureT-loop
 μ-loop tally₀ references before lost₀ i₀ tally lost i = length references - i
 
 loop-holds : tie.Need-loop-holds Inv-loop μ-loop
-loop-holds c = (begin _ _ _, refl)
+loop-holds c = (tallying-begin _ _ _, refl)
 
 add-end : tie.Need-add-end Inv-loop μ-loop
 add-end c = search needs
@@ -34,19 +34,23 @@ part-tally-four-end : tie.Need-part-tally-four-end Inv-loop μ-loop
 part-tally-four-end c = search needs
 
 tally-four-requires : tie.Need-tally-four-requires Inv-loop μ-loop
-tally-four-requires c κs = let r = room-here (c .before .before .before .loop .inv .0) (length (c .before .before .before .before .before .before .args .references .now)) 4 (c .before .before .before .before .before .before .pre .0) (c .before .before .before .before .before .before .pre .1) (omega arith) in (r .0, r .1, four-long (c .before .before .before .before .before .before .args .references .now) (c .before .before .before .loop .i) (omega arith))
+tally-four-requires c κs =
+    let entry = c .before .before .before .before .before .before in
+    let loop = c .before .before .before .loop in
+    let r = room-here (loop .inv .0) (length (entry .args .references .now)) 4 (entry .pre .0) (entry .pre .1) (omega arith) in
+    (r .0, r .1, four-long (entry .args .references .now) (loop .i) (omega arith))
 
 loop-less : tie.Need-loop-less Inv-loop μ-loop
 loop-less c = search needs
 
 loop-again : tie.Need-loop-again Inv-loop μ-loop
-loop-again c = (turn (c .before .before .before .before .before .before .loop .inv .0) _ _ _ (omega arith) (omega arith) (c .before .before .tally-four .ensures), omega arith)
+loop-again c = (tallying-turn (c .before .before .before .before .before .before .loop .inv .0) _ _ _ (omega arith) (omega arith) (c .before .before .tally-four .ensures), omega arith)
 
 same-length : tie.Need-same-length Inv-loop μ-loop
-same-length c = (c .before .loop .inv .0 .is .1 .same)
+same-length c = (c .before .loop .inv .0 .is .1 .size)
 
 returns : tie.Need-returns Inv-loop μ-loop
-returns c = done (c .before .loop .inv .0) (c .loop-test .left)
+returns c = tallying-done (c .before .loop .inv .0) (c .loop-test .left)
 
 pub tally-all-spec : {M : Type 1} → statement M
 tally-all-spec =

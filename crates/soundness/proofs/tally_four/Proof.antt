@@ -5,7 +5,7 @@ use borrow.Author.Needs.{needs}
 use lib.ListN.{length}
 use mathlib.Core.Path.{sym, _∙_}
 use native.Mathlib.Omega.{arith}
-use Rattle.soundness.proofs.Tallying.{Tallying, begin, room-here, turn-one, done, skipped}
+use Rattle.soundness.proofs.Tallying.{Tallying, tallying-begin, room-here, tallying-turn-one, tallying-done, skipped}
 use Rattle.soundness.proofs.tally_four.Statement.{statement}
 use Rattle.soundness.proofs.tally_four.Tie as tie
 
@@ -22,7 +22,7 @@ returns : tie.Need-returns Inv-loop μ-loop
 returns c = skipped _ _ _ (sym (c .before .four-empty .ensures) ∙ (c .if1 .taken))
 
 loop-holds : tie.Need-loop-holds Inv-loop μ-loop
-loop-holds c = begin _ _ _
+loop-holds c = tallying-begin _ _ _
 
 mul-tally-one : tie.Need-mul-tally-one Inv-loop μ-loop
 mul-tally-one c = search needs
@@ -31,7 +31,9 @@ shared-slice-read-tally-one : tie.Need-shared-slice-read-tally-one Inv-loop μ-l
 shared-slice-read-tally-one c = search needs
 
 tally-one-requires : tie.Need-tally-one-requires Inv-loop μ-loop
-tally-one-requires c κs = room-here (c .before .before .before .loop .inv) 4 1 (c .before .before .before .before .before .before .before .before .pre .0) (c .before .before .before .before .before .before .before .before .pre .1) (omega arith)
+tally-one-requires c κs =
+    let entry = c .before .before .before .before .before .before .before .before in
+    room-here (c .before .before .before .loop .inv) 4 1 (entry .pre .0) (entry .pre .1) (omega arith)
 
 add-i : tie.Need-add-i Inv-loop μ-loop
 add-i c = search needs
@@ -40,13 +42,14 @@ loop-less : tie.Need-loop-less Inv-loop μ-loop
 loop-less c = search needs
 
 loop-again : tie.Need-loop-again Inv-loop μ-loop
-loop-again c = turn-one (c .before .before .before .before .before .before .loop .inv) _ _ (c .before .before .before .before .before .loop-test .taken) (c .before .before .tally-one .ensures)
+loop-again c =
+    tallying-turn-one (c .before .before .before .before .before .before .loop .inv) _ _ (c .before .before .before .before .before .loop-test .taken) (c .before .before .tally-one .ensures)
 
 same-length : tie.Need-same-length Inv-loop μ-loop
-same-length c = (c .before .loop .inv .is .1 .same)
+same-length c = (c .before .loop .inv .is .1 .size)
 
 returns-2 : tie.Need-returns-2 Inv-loop μ-loop
-returns-2 c = done (c .before .loop .inv) (c .loop-test .left)
+returns-2 c = tallying-done (c .before .loop .inv) (c .loop-test .left)
 
 pub tally-four-spec : {M : Type 1} → statement M
 tally-four-spec =

@@ -19,7 +19,7 @@ slice-read-tally : tie.Need-slice-read-tally
 slice-read-tally c = search needs
 
 add-tally : tie.Need-add-tally
-add-tally c = record { fits = (c .before .before .pre .0 .fits) _ }
+add-tally c = record { fits = (c .before .before .pre .0 .fits16) _ }
 
 slice-write-tally : tie.Need-slice-write-tally
 slice-write-tally c = search needs

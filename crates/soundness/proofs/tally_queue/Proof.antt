@@ -6,7 +6,7 @@ use lib.ListN.{length}
 use mathlib.Core.Path.{refl, sym}
 use native.Mathlib.Omega.{arith}
 use Rattle.laws.specs.Lists.Tests.{clash}
-use Rattle.soundness.proofs.Queueing.{Queueing, begin, unnamed, twice, turn, done}
+use Rattle.soundness.proofs.Queueing.{Queueing, queueing-begin, unnamed, twice, queueing-turn, queueing-done}
 use Rattle.soundness.proofs.tally_queue.Statement.{statement}
 use Rattle.soundness.proofs.tally_queue.Tie as tie
 
@@ -17,7 +17,7 @@ abbrev μ-loop : tie.MeasureT-loop
 μ-loop tally₀ entries i₀ tally i = length entries - i
 
 loop-holds : tie.Need-loop-holds Inv-loop μ-loop
-loop-holds c = begin _ _
+loop-holds c = queueing-begin _ _
 
 mul-r : tie.Need-mul-r Inv-loop μ-loop
 mul-r c = search needs
@@ -38,7 +38,9 @@ same-length-2 : tie.Need-same-length-2 Inv-loop μ-loop
 same-length-2 c = search needs
 
 returns-2 : tie.Need-returns-2 Inv-loop μ-loop
-returns-2 c = (sym (unnamed _ _ (c .before .before .before .before .loop .i) (c .before .before .before .loop-test .taken) (λ b. omega (arith, b .0, b .1, (c .before .before .before .before .loop .inv .is .same)))), λ t. clash t refl)
+returns-2 c =
+    let loop = c .before .before .before .before .loop in
+    (sym (unnamed _ _ (loop .i) (c .before .before .before .loop-test .taken) (λ b. omega (arith, b .0, b .1, (loop .inv .is .size)))), λ t. clash t refl)
 
 mul-if3 : tie.Need-mul-if3 Inv-loop μ-loop
 mul-if3 c = search needs
@@ -50,7 +52,17 @@ same-length-3 : tie.Need-same-length-3 Inv-loop μ-loop
 same-length-3 c = search needs
 
 returns-3 : tie.Need-returns-3 Inv-loop μ-loop
-returns-3 c = (sym (twice (c .before .before .before .before .before .before .before .pre) (c .before .before .before .before .before .before .loop .inv) (c .before .before .before .before .before .loop-test .taken) (omega arith) (c .before .before .if2 .left) (λ e. omega arith)), λ t. clash t refl)
+returns-3 c = (
+  sym
+      (twice
+      (c .before .before .before .before .before .before .before .pre)
+      (c .before .before .before .before .before .before .loop .inv)
+      (c .before .before .before .before .before .loop-test .taken)
+      (omega arith)
+      (c .before .before .if2 .left)
+      (λ e. omega arith)),
+  λ t. clash t refl,
+)
 
 mul-tally : tie.Need-mul-tally Inv-loop μ-loop
 mul-tally c = search needs
@@ -65,13 +77,20 @@ loop-less : tie.Need-loop-less Inv-loop μ-loop
 loop-less c = search needs
 
 loop-again : tie.Need-loop-again Inv-loop μ-loop
-loop-again c = turn (c .before .before .before .before .before .before .before .pre) (c .before .before .before .before .before .before .loop .inv) (c .before .before .before .before .before .loop-test .taken) (omega arith) (c .before .before .if2 .left) _ (omega arith) refl
+loop-again c =
+    queueing-turn
+    (c .before .before .before .before .before .before .before .pre)
+    (c .before .before .before .before .before .before .loop .inv)
+    (c .before .before .before .before .before .loop-test .taken)
+    (omega arith)
+    (c .before .before .if2 .left) _
+    (omega arith) refl
 
 same-length-4 : tie.Need-same-length-4 Inv-loop μ-loop
 same-length-4 c = search needs
 
 returns-4 : tie.Need-returns-4 Inv-loop μ-loop
-returns-4 c = (sym (done (c .before .loop .inv) (c .loop-test .left) .0), λ t. done (c .before .loop .inv) (c .loop-test .left) .1)
+returns-4 c = (sym (queueing-done (c .before .loop .inv) (c .loop-test .left) .0), λ t. queueing-done (c .before .loop .inv) (c .loop-test .left) .1)
 
 pub tally-queue-spec : {M : Type 1} → statement M
 tally-queue-spec =

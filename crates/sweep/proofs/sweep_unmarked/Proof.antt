@@ -5,33 +5,60 @@ use Rattle.sweep.proofs.sweep_unmarked.Statement.{statement}
 use Rattle.sweep.proofs.sweep_unmarked.Tie as tie
 
 unlink-unmarked-requires : tie.Need-unlink-unmarked-requires
-unlink-unmarked-requires c κs = (
-  (sym (c .before .before .before .before .before .before .before .before .pre .0 .count-size), c .before .before .before .before .before .before .before .before .pre .1 .0 .0 ∙ sym (c .before .before .before .before .before .before .before .before .pre .0 .count-size)),
-  rw (c .before .before .before .before .before .before .before .before .pre .0 .count-size) (record { fit = c .before .before .before .before .before .before .before .before .pre .0 .slots-size; within = c .before .before .before .before .before .before .before .before .pre .1 .1 }),
-)
+unlink-unmarked-requires c κs =
+    let entry = c .before .before .before .before .before .before .before .before in (
+      (sym (entry .pre .0 .count-size), entry .pre .1 .0 .0 ∙ sym (entry .pre .0 .count-size)),
+      rw (entry .pre .0 .count-size) (record { fit = entry .pre .0 .slots-size; within = entry .pre .1 .1 }),
+    )
 
 wipe-unmarked-requires : tie.Need-wipe-unmarked-requires
-wipe-unmarked-requires c κs = (record { flags-size = c .before .before .before .before .before .before .before .before .before .before .before .before .before .before .before .pre .0 .flags-size; count-size = c .before .before .before .before .before .before .unlink-unmarked .kept .1 .0 ∙ c .before .before .before .before .before .before .before .before .before .before .before .before .before .before .before .pre .0 .count-size; slots-size = c .before .before .before .before .before .before .before .before .before .before .before .before .before .before .before .pre .0 .slots-size }, c .before .before .before .before .before .before .before .before .before .before .before .before .before .before .before .pre .1 .0)
+wipe-unmarked-requires c κs =
+    let entry = c .before .before .before .before .before .before .before .before .before .before .before .before .before .before .before in (
+      record {
+        flags-size = entry .pre .0 .flags-size;
+        count-size = c .before .before .before .before .before .before .unlink-unmarked .kept .1 .0 ∙ entry .pre .0 .count-size;
+        slots-size = entry .pre .0 .slots-size;
+      },
+      entry .pre .1 .0,
+    )
 
 rescue-marked-requires : tie.Need-rescue-marked-requires
-rescue-marked-requires c κs = c .before .before .before .before .before .before .before .before .before .before .before .before .before .before .before .before .before .before .before .before .before .before .before .before .before .pre .1 .0 .0 ∙ sym (c .before .before .before .before .before .before .before .before .before .wipe-unmarked .kept .1 .0 ∙ c .before .before .before .before .before .before .before .before .before .before .before .before .before .before .before .before .before .before .before .before .before .before .before .before .before .pre .0 .flags-size)
+rescue-marked-requires c κs =
+    let entry =
+    c .before .before .before .before .before .before .before .before .before .before .before .before .before .before .before .before .before .before
+    .before .before .before .before .before .before .before in
+    entry .pre .1 .0 .0 ∙ sym (c .before .before .before .before .before .before .before .before .before .wipe-unmarked .kept .1 .0 ∙ entry .pre .0 .flags-size)
 
 same-length : tie.Need-same-length
-same-length c = c .before .before .before .before .before .before .before .before .before .before .before .before .wipe-unmarked .kept .0
+same-length c =
+    let wipe-unmarked = c .before .before .before .before .before .before .before .before .before .before .before .before .wipe-unmarked in
+    wipe-unmarked .kept .0
 
 same-length-2 : tie.Need-same-length-2
-same-length-2 c = c .before .before .rescue-marked .kept .0 ∙ c .before .before .before .before .before .before .before .before .before .before .before .before .wipe-unmarked .kept .1 .0
+same-length-2 c =
+    let wipe-unmarked = c .before .before .before .before .before .before .before .before .before .before .before .before .wipe-unmarked in
+    c .before .before .rescue-marked .kept .0 ∙ wipe-unmarked .kept .1 .0
 
 same-length-3 : tie.Need-same-length-3
-same-length-3 c = c .before .before .before .before .before .before .before .before .before .before .before .before .wipe-unmarked .kept .1 .1 .0 ∙ c .before .before .before .before .before .before .before .before .before .before .before .before .before .before .before .before .before .before .before .unlink-unmarked .kept .1 .0
+same-length-3 c =
+    let unlink-unmarked = c .before .before .before .before .before .before .before .before .before .before .before .before .before .before .before .before .before .before .before .unlink-unmarked in
+    let wipe-unmarked = c .before .before .before .before .before .before .before .before .before .before .before .before .wipe-unmarked in
+    wipe-unmarked .kept .1 .1 .0 ∙ unlink-unmarked .kept .1 .0
 
 same-length-4 : tie.Need-same-length-4
-same-length-4 c = c .before .before .before .before .before .before .before .before .before .before .before .before .wipe-unmarked .kept .1 .1 .1 .0
+same-length-4 c =
+    let wipe-unmarked = c .before .before .before .before .before .before .before .before .before .before .before .before .wipe-unmarked in
+    wipe-unmarked .kept .1 .1 .1 .0
 
 returns : tie.Need-returns
 returns c =
-    sweep-joins (c .before .before .before .before .before .before .before .before .before .before .before .before .wipe-unmarked .kept .1 .0 ∙ c .before .before .before .before .before .before .before .before .before .before .before .before .before .before .before .before .before .before .before .before .before .before .before .before .before .before .before .before .pre .0 .flags-size ∙ sym (c .before .before .before .before .before .before .before .before .before .before .before .before .wipe-unmarked .kept .0))
-    (c .before .before .before .before .before .before .before .before .before .before .before .before .before .before .before .before .before .before .before .unlink-unmarked .ensures) (c .before .before .before .before .before .before .before .before .before .before .before .before .wipe-unmarked .ensures) (c .before .before .rescue-marked .ensures)
+    let entry =
+    c .before .before .before .before .before .before .before .before .before .before .before .before .before .before .before .before .before .before
+    .before .before .before .before .before .before .before .before .before .before in
+    let unlink-unmarked = c .before .before .before .before .before .before .before .before .before .before .before .before .before .before .before .before .before .before .before .unlink-unmarked in
+    let wipe-unmarked = c .before .before .before .before .before .before .before .before .before .before .before .before .wipe-unmarked in
+    sweep-joins (wipe-unmarked .kept .1 .0 ∙ entry .pre .0 .flags-size ∙ sym (wipe-unmarked .kept .0))
+    (unlink-unmarked .ensures) (wipe-unmarked .ensures) (c .before .before .rescue-marked .ensures)
 
 pub sweep-unmarked-spec : {M : Type 1} → statement M
 sweep-unmarked-spec =

@@ -43,7 +43,15 @@ module _ (t : ℕ) where
   add-put-byte-2 c = search needs
 
   put-byte-requires-2 : put-number-lts.Need-put-byte-requires-2 (put-byte-reads.Asked, put-byte-reads.Learnt, put-number-below t, put-number.Post) (put-number-at t) put-number.Post
-  put-byte-requires-2 c κs = omega (arith, length-large (c .before .before .before .before .before .before .before .args .n) (c .before .before .before .before .before .if1 .left), c .before .before .before .put-number .ensures .end, c .before .before .before .put-number .ensures .size, c .before .before .before .before .before .before .before .pre .1)
+  put-byte-requires-2 c κs =
+      let entry = c .before .before .before .before .before .before .before in
+      omega (
+        arith,
+        length-large (entry .args .n) (c .before .before .before .before .before .if1 .left),
+        c .before .before .before .put-number .ensures .end,
+        c .before .before .before .put-number .ensures .size,
+        entry .pre .1,
+      )
 
   same-length : put-number-lts.Need-same-length (put-byte-reads.Asked, put-byte-reads.Learnt, put-number-below t, put-number.Post) (put-number-at t) put-number.Post
   same-length c = search needs

@@ -26,7 +26,18 @@ same-length c = search needs
 
 returns : tie.Need-returns
 unfolding rendered
-returns c = (wrote-more _ _ _ _ _ _ _ _ (c .before .before .before .before .before .before .before .before .before .before .before .before .before .before .before .before .before .before .put-field .ensures .0) (wrote-more _ _ _ _ _ _ _ _ (c .before .before .before .before .before .before .before .before .before .before .before .before .before .before .put-field2 .ensures .0) (wrote-more _ _ _ _ _ _ _ _ (c .before .before .before .before .before .before .before .before .before .before .put-field3 .ensures .0) (wrote-more _ _ _ _ _ _ _ _ (c .before .before .before .before .before .before .put-field4 .ensures .0) ((c .before .before .put-last .ensures .0))))), omega arith)
+returns c =
+    let put-field = c .before .before .before .before .before .before .before .before .before .before .before .before .before .before .before .before .before .before .put-field in
+    let put-field2 = c .before .before .before .before .before .before .before .before .before .before .before .before .before .before .put-field2 in (
+      wrote-more _ _ _ _ _ _ _ _
+          (put-field .ensures .0)
+          (wrote-more _ _ _ _ _ _ _ _
+          (put-field2 .ensures .0)
+          (wrote-more _ _ _ _ _ _ _ _
+          (c .before .before .before .before .before .before .before .before .before .before .put-field3 .ensures .0)
+          (wrote-more _ _ _ _ _ _ _ _ (c .before .before .before .before .before .before .put-field4 .ensures .0) ((c .before .before .put-last .ensures .0))))),
+      omega arith,
+    )
 
 pub render-spec : {M : Type 1} → statement M
 render-spec =

@@ -25,7 +25,12 @@ used-or-zero-requires-3 c κs = search needs
 
 returns-3 : tie.Need-returns-3
 unfolding unusedZero
-returns-3 c = rw (sym (c .before .before .before .before .used-or-zero .ensures) ∙ not-false _ (c .before .before .before .if1 .left), sym (c .before .before .used-or-zero2 .ensures) ∙ not-false _ (c .before .if2 .left)) (c .used-or-zero3 .ensures)
+returns-3 c =
+    rw (
+      sym (c .before .before .before .before .used-or-zero .ensures) ∙ not-false _ (c .before .before .before .if1 .left),
+      sym (c .before .before .used-or-zero2 .ensures) ∙ not-false _ (c .before .if2 .left),
+    )
+    (c .used-or-zero3 .ensures)
 
 pub unused-zero-spec : {M : Type 1} → statement M
 unused-zero-spec =

@@ -9,10 +9,14 @@ use Rattle.session.proofs.line.answer.Tie as tie
 returns : tie.Need-returns
 unfolding askedOf numberOf
 returns c =
-    rw (c .before .before .before .before .before .before .before .before .before .before .before .before .before .before .before .before .before .before .before .before .before .before .before .before .before .before .before .said .given .1) (
-      c .before .before .before .before .before .before .before .before .before .before .before .before .before .before .before .before .before .before .dispatch .ensures .heap,
+    let said =
+    c .before .before .before .before .before .before .before .before .before .before .before .before .before .before .before .before .before .before
+    .before .before .before .before .before .before .before .before .before .said in
+    let dispatch = c .before .before .before .before .before .before .before .before .before .before .before .before .before .before .before .before .before .before .dispatch in
+    rw (said .given .1) (
+      dispatch .ensures .heap,
       (
-        rw (sym (c .before .before .before .before .before .before .before .before .before .before .before .before .before .before .before .before .before .before .dispatch .ensures .answered)) (c .before .before .write-answer .ensures .0),
+        rw (sym (dispatch .ensures .answered)) (c .before .before .write-answer .ensures .0),
         c .before .before .write-answer .ensures .1,
       ),
     )
@@ -37,7 +41,9 @@ answer-spec =
     (λ c. search needs)
     (λ c. search needs)
     (λ c κs. tt)
-    (λ c κs. c .before .before .before .before .before .before .before .before .before .before .before .before .before .before .before .before .before .before .before .before .before .before .before .before .before .before .before .before .before .before .before .before .before .before .pre)
+    (λ c κs.
+    c .before .before .before .before .before .before .before .before .before .before .before .before .before .before .before .before .before .before
+    .before .before .before .before .before .before .before .before .before .before .before .before .before .before .before .before .pre)
     (λ c. search needs)
     (λ c κs. tt)
     (λ c κs. c .before .before .before .before .before .before .before .before .before .before .before .before .pre)

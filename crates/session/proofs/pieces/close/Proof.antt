@@ -1,24 +1,35 @@
 -- `session::pieces::close` meets its contract: nothing is left, or an unfinished line is answered. Assumes nothing.
 use mathlib.Core.Path.{_∙_, ap}
-use Rattle.csv.specs.Feeding.{closed}
-use Rattle.session.proofs.Delivery.{closed-nothing, closed-line}
+use Rattle.csv.specs.Feeding.{atEnd}
+use Rattle.session.proofs.Delivery.{ended-nothing, ended-line}
 use borrow.Author.Needs.{needs}
 use Rattle.session.proofs.pieces.close.Statement.{statement}
 use Rattle.session.proofs.pieces.close.Tie as tie
 
 returns : tie.Need-returns
-unfolding closed
-returns c = closed-nothing _ _ _ (c .before .before .finish .ensures ∙ ap closed (c .enum-told .given .1))
+unfolding atEnd
+returns c = ended-nothing _ _ _ (c .before .before .scan-end .ensures ∙ ap atEnd (c .enum-told .given .1))
 
 returns-2 : tie.Need-returns-2
-unfolding closed
+unfolding atEnd
 returns-2 c =
-    closed-line _ _ _ _ _ _ _
-    (c .before .before .before .before .before .before .before .before .before .before .before .before .before .before .before .before .before .before .before .before .before .before .before .before .before .before .before .before .finish .ensures ∙ ap closed (c .before .before .before .before .before .before .before .before .before .before .before .before .before .before .before .before .before .before .before .before .before .before .before .before .before .before .said .given .1))
-    (c .before .before .before .before .before .before .before .before .before .before .before .before .before .before .before .before .answer .ensures .0)
-    (c .before .before .before .before .before .before .before .before .before .before .before .before .before .before .before .before .answer .ensures .1 .0)
-    (c .before .before .before .before .before .before .before .before .before .before .before .before .before .before .before .before .answer .ensures .1 .1)
-    (c .before .before .before .before .before .before .before .before .before .before .before .before .before .before .before .before .before .before .before .before .before .before .before .before .before .before .before .before .before .before .before .before .before .before .before .before .before .pre)
+    let entry =
+    c .before .before .before .before .before .before .before .before .before .before .before .before .before .before .before .before .before .before
+    .before .before .before .before .before .before .before .before .before .before .before .before .before .before .before .before .before .before
+    .before in
+    let scan-end =
+    c .before .before .before .before .before .before .before .before .before .before .before .before .before .before .before .before .before .before
+    .before .before .before .before .before .before .before .before .before .before .scan-end in
+    let said =
+    c .before .before .before .before .before .before .before .before .before .before .before .before .before .before .before .before .before .before
+    .before .before .before .before .before .before .before .before .said in
+    let answer = c .before .before .before .before .before .before .before .before .before .before .before .before .before .before .before .before .answer in
+    ended-line _ _ _ _ _ _ _
+    (scan-end .ensures ∙ ap atEnd (said .given .1))
+    (answer .ensures .0)
+    (answer .ensures .1 .0)
+    (answer .ensures .1 .1)
+    (entry .pre)
 
 pub close-spec : {M : Type 1} → statement M
 close-spec =

@@ -8,9 +8,9 @@ use denote.Ref.{now}
 use lib.ListN.{length, take}
 use lib.Seq.{take-suc, take-all, length-take-le}
 use Rattle.rules.specs.Heap.{tables}
-use Rattle.session.specs.Pieces.{Advanced}
+use Rattle.session.specs.Pieces.{Progressed}
 use Rattle.session.proofs.Sizes.{SameSizes, same-sizes}
-use Rattle.session.proofs.Delivery.{advanced-none, advanced-more}
+use Rattle.session.proofs.Delivery.{progressed-none, progressed-more}
 use borrow.Author.Needs.{needs}
 use Rattle.session.proofs.pieces.take_piece.Statement.{statement}
 use Rattle.session.proofs.pieces.take_piece.Tie as tie
@@ -19,32 +19,53 @@ abbrev Inv-loop : tie.InvT-loop
 Inv-loop kind₀ flags₀ count₀ slots₀ roots₀ queue₀ control₀ piece out₀ p₀ i₀ kind flags count slots roots queue control out p i =
     (i ≤ length piece)
     × SameSizes (tables kind₀ flags₀ count₀ slots₀ roots₀ queue₀ control₀) (tables kind flags count slots roots queue control)
-    × Advanced (p₀ .scan) (take i piece) out₀ 0 (tables kind₀ flags₀ count₀ slots₀ roots₀ queue₀ control₀) (tables kind flags count slots roots queue control) out p
+    × Progressed (p₀ .scan) (take i piece) out₀ 0 (tables kind₀ flags₀ count₀ slots₀ roots₀ queue₀ control₀) (tables kind flags count slots roots queue control) out p
 
 abbrev μ-loop : tie.MeasureT-loop
 μ-loop kind₀ flags₀ count₀ slots₀ roots₀ queue₀ control₀ piece out₀ p₀ i₀ kind flags count slots roots queue control out p i =
     length piece - i
 
 loop-holds : tie.Need-loop-holds Inv-loop μ-loop
-loop-holds c = (omega arith, same-sizes _, advanced-none _ _ 0 _)
+loop-holds c = (omega arith, same-sizes _, progressed-none _ _ 0 _)
 
 take-byte-requires : tie.Need-take-byte-requires Inv-loop μ-loop
 take-byte-requires c κs =
+    let entry = c .before .before .before .before .before .before .before .before .before .before .before .before .before .before .before .before .before .before .before .before .before in
+    let loop = c .before .before .before .before .before .before .before .before .before .before .before .loop in
     omega (
       arith,
-      length-take-le (c .before .before .before .before .before .before .before .before .before .before .before .loop .i) (now (c .before .before .before .before .before .before .before .before .before .before .before .before .before .before .before .before .before .before .before .before .before .args .piece)) (omega arith),
-      c .before .before .before .before .before .before .before .before .before .before .before .loop .inv .2 .room,
-      c .before .before .before .before .before .before .before .before .before .before .before .loop .inv .2 .wrote .size,
-      c .before .before .before .before .before .before .before .before .before .before .before .before .before .before .before .before .before .before .before .before .before .pre,
+      length-take-le (loop .i) (now (entry .args .piece)) (omega arith),
+      loop .inv .2 .room,
+      loop .inv .2 .wrote .size,
+      entry .pre,
     )
 
 add-i : tie.Need-add-i Inv-loop μ-loop
-add-i c = omega (arith, c .before .before .before .before .before .before .before .before .before .before .before .before .before .before .before .before .before .before .before .before .before .before .before .before .before .before .before .loop-test .taken, c .before .before .before .before .before .before .before .before .before .before .before .before .before .before .before .before .before .before .before .before .before .before .before .before .before .before .before .before .before .before .before .before .before .before .before .before .before .before .good .1 .1 .1 .1 .1 .1 .1 .1 .0)
+add-i c =
+    let good =
+    c .before .before .before .before .before .before .before .before .before .before .before .before .before .before .before .before .before .before
+    .before .before .before .before .before .before .before .before .before .before .before .before .before .before .before .before .before .before
+    .before .before .good in
+    let loop-test =
+    c .before .before .before .before .before .before .before .before .before .before .before .before .before .before .before .before .before .before
+    .before .before .before .before .before .before .before .before .before .loop-test in
+    omega (arith, loop-test .taken, good .1 .1 .1 .1 .1 .1 .1 .1 .0)
 
 loop-again : tie.Need-loop-again Inv-loop μ-loop
 loop-again c =
-    let k = c .before .before .before .before .before .before .before .before .before .before .before .before .before .before .before .before .take-byte .kept in
-    let s = c .before .before .before .before .before .before .before .before .before .before .before .before .before .before .before .before .before .before .before .before .before .before .before .before .before .before .before .before .loop .inv .1 in (
+    let entry =
+    c .before .before .before .before .before .before .before .before .before .before .before .before .before .before .before .before .before .before
+    .before .before .before .before .before .before .before .before .before .before .before .before .before .before .before .before .before .before
+    .before .before in
+    let loop =
+    c .before .before .before .before .before .before .before .before .before .before .before .before .before .before .before .before .before .before
+    .before .before .before .before .before .before .before .before .before .before .loop in
+    let loop-test =
+    c .before .before .before .before .before .before .before .before .before .before .before .before .before .before .before .before .before .before
+    .before .before .before .before .before .before .before .before .before .loop-test in
+    let take-byte = c .before .before .before .before .before .before .before .before .before .before .before .before .before .before .before .before .take-byte in
+    let k = take-byte .kept in
+    let s = loop .inv .1 in (
       omega arith,
       record {
         kind = k .0 ∙ s .kind;
@@ -55,12 +76,14 @@ loop-again c =
         queue = k .1 .1 .1 .1 .1 .0 ∙ s .queue;
         control = k .1 .1 .1 .1 .1 .1 .0 ∙ s .control;
       },
-      rw (add-one, take-suc (now (c .before .before .before .before .before .before .before .before .before .before .before .before .before .before .before .before .before .before .before .before .before .before .before .before .before .before .before .before .before .before .before .before .before .before .before .before .before .before .args .piece)) (c .before .before .before .before .before .before .before .before .before .before .before .before .before .before .before .before .before .before .before .before .before .before .before .before .before .before .before .before .loop .i) 0 (c .before .before .before .before .before .before .before .before .before .before .before .before .before .before .before .before .before .before .before .before .before .before .before .before .before .before .before .loop-test .taken))
-          (advanced-more _ _ _ _ _ _ _ _ _ _ _ _ (c .before .before .before .before .before .before .before .before .before .before .before .before .before .before .before .before .before .before .before .before .before .before .before .before .before .before .before .before .loop .inv .2) (c .before .before .before .before .before .before .before .before .before .before .before .before .before .before .before .before .take-byte .ensures)),
+      rw (add-one, take-suc (now (entry .args .piece)) (loop .i) 0 (loop-test .taken))
+          (progressed-more _ _ _ _ _ _ _ _ _ _ _ _ (loop .inv .2) (take-byte .ensures)),
     )
 
 returns : tie.Need-returns Inv-loop μ-loop
-returns c = rw (take-all (c .before .loop .i) (now (c .before .before .before .before .before .before .before .before .before .before .before .args .piece)) (c .loop-test .left)) at (c .before .loop .inv .2)
+returns c =
+    rw (take-all (c .before .loop .i) (now (c .before .before .before .before .before .before .before .before .before .before .before .args .piece)) (c .loop-test .left))
+    at (c .before .loop .inv .2)
 
 pub take-piece-spec : {M : Type 1} → statement M
 take-piece-spec =

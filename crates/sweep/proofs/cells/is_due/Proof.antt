@@ -15,7 +15,9 @@ shared-slice-read-if1 : tie.Need-shared-slice-read-if1
 shared-slice-read-if1 c = search needs
 
 returns : tie.Need-returns
-returns c = rw (ne-eqb (getD (c .before .before .before .before .before .args .kind .now) (c .before .before .before .before .before .args .c) 0) 1 (c .if1 .taken)) refl
+returns c =
+    let entry = c .before .before .before .before .before in
+    rw (ne-eqb (getD (entry .args .kind .now) (entry .args .c) 0) 1 (c .if1 .taken)) refl
 
 mul-if2 : tie.Need-mul-if2
 mul-if2 c = search needs
@@ -24,13 +26,18 @@ shared-slice-read-if2 : tie.Need-shared-slice-read-if2
 shared-slice-read-if2 c = search needs
 
 returns-2 : tie.Need-returns-2
-returns-2 c = rw (eq-eqb (getD (c .before .before .before .before .before .before .before .args .kind .now) (c .before .before .before .before .before .before .before .args .c) 0) 1 (c .before .before .if1 .left), ne-eqb (getD (c .before .before .before .before .before .before .before .args .flags .now) (c .before .before .before .before .before .before .before .args .c) 0) 1 (c .if2 .taken)) refl
+returns-2 c =
+    let entry = c .before .before .before .before .before .before .before in
+    rw (eq-eqb (getD (entry .args .kind .now) (entry .args .c) 0) 1 (c .before .before .if1 .left), ne-eqb (getD (entry .args .flags .now) (entry .args .c) 0) 1 (c .if2 .taken)) refl
 
 mark-of-requires : tie.Need-mark-of-requires
 mark-of-requires c κs = search needs
 
 returns-3 : tie.Need-returns-3
-returns-3 c = rw (eq-eqb (getD (c .before .before .before .before .before .before .before .before .args .kind .now) (c .before .before .before .before .before .before .before .before .args .c) 0) 1 (c .before .before .before .if1 .left), eq-eqb (getD (c .before .before .before .before .before .before .before .before .args .flags .now) (c .before .before .before .before .before .before .before .before .args .c) 0) 1 (c .before .if2 .left)) (ap (λ (x : ℕ). eqb x 0) (c .mark-of .ensures))
+returns-3 c =
+    let entry = c .before .before .before .before .before .before .before .before in
+    rw (eq-eqb (getD (entry .args .kind .now) (entry .args .c) 0) 1 (c .before .before .before .if1 .left), eq-eqb (getD (entry .args .flags .now) (entry .args .c) 0) 1 (c .before .if2 .left))
+    (ap (λ (x : ℕ). eqb x 0) (c .mark-of .ensures))
 
 pub is-due-spec : {M : Type 1} → statement M
 is-due-spec =

@@ -15,13 +15,17 @@ shared-slice-read-if1 : tie.Need-shared-slice-read-if1
 shared-slice-read-if1 c = search needs
 
 returns : tie.Need-returns
-returns c = rw (eq-eqb (getD (c .before .before .before .before .args .kind .now) (c .before .before .before .before .args .c) 0) 0 (c .if1 .taken)) refl
+returns c =
+    let entry = c .before .before .before .before in
+    rw (eq-eqb (getD (entry .args .kind .now) (entry .args .c) 0) 0 (c .if1 .taken)) refl
 
 mark-of-requires : tie.Need-mark-of-requires
 mark-of-requires c κs = search needs
 
 returns-2 : tie.Need-returns-2
-returns-2 c = rw (ne-eqb (getD (c .before .before .before .before .before .args .kind .now) (c .before .before .before .before .before .args .c) 0) 0 (c .before .if1 .left)) (ap (λ (x : ℕ). eqb x 0) (c .mark-of .ensures))
+returns-2 c =
+    let entry = c .before .before .before .before .before in
+    rw (ne-eqb (getD (entry .args .kind .now) (entry .args .c) 0) 0 (c .before .if1 .left)) (ap (λ (x : ℕ). eqb x 0) (c .mark-of .ensures))
 
 pub is-garbage-spec : {M : Type 1} → statement M
 is-garbage-spec =

@@ -10,35 +10,50 @@ use Rattle.sweep.proofs.queueing.queue_cell.Statement.{statement}
 use Rattle.sweep.proofs.queueing.queue_cell.Tie as tie
 
 is-due-requires : tie.Need-is-due-requires
-is-due-requires c κs = (c .before .before .before .before .before .before .pre .0, (omega (arith, c .before .before .before .before .before .before .pre .1 .fit .flags-size), omega (arith, c .before .before .before .before .before .before .pre .1 .marks-size)))
+is-due-requires c κs =
+    let entry = c .before .before .before .before .before .before in
+    (entry .pre .0, (omega (arith, entry .pre .1 .fit .flags-size), omega (arith, entry .pre .1 .marks-size)))
 
 returns : tie.Need-returns
 returns c = queued-none (c .before .before .before .before .before .before .before .before .args .c) (sym (c .before .is-due .ensures) ∙ not-true _ (c .if1 .taken))
 
 enqueue-requires : tie.Need-enqueue-requires
 enqueue-requires c κs =
-    let room = room-one (c .before .before .before .before .before .before .before .before .before .before .args .c) (sym (c .before .before .before .is-due .ensures) ∙ not-false _ (c .before .before .if1 .left)) (c .before .before .before .before .before .before .before .before .before .before .pre .1) in
-    (omega (arith, c .before .before .before .before .before .before .before .before .before .before .pre .1 .fit .small), (omega (arith, c .before .before .before .before .before .before .before .before .before .before .pre .1 .fit .control-size), (omega (arith, c .before .before .before .before .before .before .before .before .before .before .pre .1 .fit .queue-size), omega (arith, c .before .before .before .before .before .before .before .before .before .before .pre .1 .fit .small))))
+    let entry = c .before .before .before .before .before .before .before .before .before .before in
+    let room = room-one (entry .args .c) (sym (c .before .before .before .is-due .ensures) ∙ not-false _ (c .before .before .if1 .left)) (entry .pre .1) in
+    (omega (arith, entry .pre .1 .fit .small), (omega (arith, entry .pre .1 .fit .control-size), (omega (arith, entry .pre .1 .fit .queue-size), omega (arith, entry .pre .1 .fit .small))))
 
 mul-count : tie.Need-mul-count
 mul-count c = search needs
 
 slice-read-count : tie.Need-slice-read-count
-slice-read-count c = omega (arith, c .before .before .before .before .before .before .before .before .before .before .before .before .before .before .before .before .pre .1 .fit .count-size)
+slice-read-count c =
+    let entry = c .before .before .before .before .before .before .before .before .before .before .before .before .before .before .before .before in
+    omega (arith, entry .pre .1 .fit .count-size)
 
 add-count : tie.Need-add-count
 add-count c =
-    let room = room-one (c .before .before .before .before .before .before .before .before .before .before .before .before .before .before .before .before .args .c) (sym (c .before .before .before .before .before .before .before .before .before .is-due .ensures) ∙ not-false _ (c .before .before .before .before .before .before .before .before .if1 .left)) (c .before .before .before .before .before .before .before .before .before .before .before .before .before .before .before .before .pre .1) in
+    let entry = c .before .before .before .before .before .before .before .before .before .before .before .before .before .before .before .before in
+    let room =
+    room-one
+    (entry .args .c)
+    (sym (c .before .before .before .before .before .before .before .before .before .is-due .ensures)
+    ∙ not-false _ (c .before .before .before .before .before .before .before .before .if1 .left))
+    (entry .pre .1) in
     omega arith
 
 mul-count-2 : tie.Need-mul-count-2
 mul-count-2 c = search needs
 
 slice-write-count : tie.Need-slice-write-count
-slice-write-count c = omega (arith, c .before .before .before .before .before .before .before .before .before .before .before .before .before .before .before .before .pre .1 .fit .count-size)
+slice-write-count c =
+    let entry = c .before .before .before .before .before .before .before .before .before .before .before .before .before .before .before .before in
+    omega (arith, entry .pre .1 .fit .count-size)
 
 same-length : tie.Need-same-length
-same-length c = length-set (c .before .before .before .before .before .before .before .before .before .before .before .before .before .before .before .before .args .count .now) (c .before .before .before .before .before .before .before .before .before .before .before .before .before .before .before .before .args .c) (getD (c .before .before .before .before .before .before .before .before .before .before .before .before .before .before .before .before .args .count .now) (c .before .before .before .before .before .before .before .before .before .before .before .before .before .before .before .before .args .c) 0 + 1)
+same-length c =
+    let entry = c .before .before .before .before .before .before .before .before .before .before .before .before .before .before .before .before in
+    length-set (entry .args .count .now) (entry .args .c) (getD (entry .args .count .now) (entry .args .c) 0 + 1)
 
 same-length-2 : tie.Need-same-length-2
 same-length-2 c = c .before .before .before .before .before .enqueue .kept .0
@@ -47,7 +62,15 @@ same-length-3 : tie.Need-same-length-3
 same-length-3 c = c .before .before .before .before .before .enqueue .kept .1 .0
 
 returns-2 : tie.Need-returns-2
-returns-2 c = queued-one (c .before .before .before .before .before .before .before .before .before .before .before .before .before .before .before .before .args .c) (sym (c .before .before .before .before .before .before .before .before .before .is-due .ensures) ∙ not-false _ (c .before .before .before .before .before .before .before .before .if1 .left)) refl (c .before .before .before .before .before .enqueue .ensures .0) (c .before .before .before .before .before .enqueue .ensures .1)
+returns-2 c =
+    let entry = c .before .before .before .before .before .before .before .before .before .before .before .before .before .before .before .before in
+    let enqueue = c .before .before .before .before .before .enqueue in
+    queued-one
+    (entry .args .c)
+    (sym (c .before .before .before .before .before .before .before .before .before .is-due .ensures)
+    ∙ not-false _ (c .before .before .before .before .before .before .before .before .if1 .left)) refl
+    (enqueue .ensures .0)
+    (enqueue .ensures .1)
 
 pub queue-cell-spec : {M : Type 1} → statement M
 queue-cell-spec =

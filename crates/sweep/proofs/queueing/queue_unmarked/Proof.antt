@@ -10,19 +10,33 @@ use Rattle.sweep.proofs.queueing.queue_unmarked.Statement.{statement}
 use Rattle.sweep.proofs.queueing.queue_unmarked.Tie as tie
 
 abbrev Inv-loop : tie.InvT-loop
-Inv-loop kind flags count₀ queue₀ control₀ marks queued₀ c₀ c-end count queue control queued c = (c ≤ length kind) × Queued kind flags count₀ queue₀ control₀ (select (isDue kind flags marks) c) count queue control queued × (length count ≡ length count₀) × (length queue ≡ length queue₀) × (length control ≡ length control₀)
+Inv-loop kind flags count₀ queue₀ control₀ marks queued₀ c₀ c-end count queue control queued c =
+    (c ≤ length kind) × Queued kind flags count₀ queue₀ control₀ (select (isDue kind flags marks) c) count queue control queued
+    × (length count ≡ length count₀) × (length queue ≡ length queue₀) × (length control ≡ length control₀)
 
 abbrev μ-loop : tie.MeasureT-loop
 μ-loop kind flags count₀ queue₀ control₀ marks queued₀ c₀ c-end count queue control queued c = length kind - c
 
 loop-holds : tie.Need-loop-holds Inv-loop μ-loop
-loop-holds c = (omega arith, queued-start (isDue (c .before .before .before .before .before .before .args .kind .now) (c .before .before .before .before .before .before .args .flags .now) (c .before .before .before .before .before .before .args .marks .now)), refl, refl, refl)
+loop-holds c =
+    let entry = c .before .before .before .before .before .before in
+    (omega arith, queued-start (isDue (entry .args .kind .now) (entry .args .flags .now) (entry .args .marks .now)), refl, refl, refl)
 
 queue-cell-requires : tie.Need-queue-cell-requires Inv-loop μ-loop
-queue-cell-requires c κs = (omega arith, room-turn (isDue (c .before .before .before .before .before .before .before .before .before .before .before .args .kind .now) (c .before .before .before .before .before .before .before .before .before .before .before .args .flags .now) (c .before .before .before .before .before .before .before .before .before .before .before .args .marks .now)) (c .before .before .before .before .loop .c) (omega arith) (c .before .before .before .before .before .before .before .before .before .before .before .pre) (c .before .before .before .before .loop .inv .1))
+queue-cell-requires c κs =
+    let entry = c .before .before .before .before .before .before .before .before .before .before .before in
+    let loop = c .before .before .before .before .loop in
+    (omega arith, room-turn (isDue (entry .args .kind .now) (entry .args .flags .now) (entry .args .marks .now)) (loop .c) (omega arith) (entry .pre) (loop .inv .1))
 
 add-queued : tie.Need-add-queued Inv-loop μ-loop
-add-queued c = omega (arith, queued-small (isDue (c .before .before .before .before .before .before .before .before .before .before .before .before .before .before .before .before .before .before .args .kind .now) (c .before .before .before .before .before .before .before .before .before .before .before .before .before .before .before .before .before .before .args .flags .now) (c .before .before .before .before .before .before .before .before .before .before .before .before .before .before .before .before .before .before .args .marks .now)) (c .before .before .before .before .before .before .before .before .before .before .before .loop .c) (omega arith) (c .before .before .before .before .before .before .before .before .before .before .before .before .before .before .before .before .before .before .pre) (c .before .before .before .before .before .before .before .before .before .before .before .loop .inv .1), c .before .before .before .before .before .before .queue-cell .ensures .many)
+add-queued c =
+    let entry = c .before .before .before .before .before .before .before .before .before .before .before .before .before .before .before .before .before .before in
+    let loop = c .before .before .before .before .before .before .before .before .before .before .before .loop in
+    omega (
+      arith,
+      queued-small (isDue (entry .args .kind .now) (entry .args .flags .now) (entry .args .marks .now)) (loop .c) (omega arith) (entry .pre) (loop .inv .1),
+      c .before .before .before .before .before .before .queue-cell .ensures .many,
+    )
 
 add-c : tie.Need-add-c Inv-loop μ-loop
 add-c c = omega arith
@@ -32,10 +46,11 @@ loop-less c = omega arith
 
 loop-again : tie.Need-loop-again Inv-loop μ-loop
 loop-again c =
+    let entry = c .before .before .before .before .before .before .before .before .before .before .before .before .before .before .before .before .before .before in
     let l = c .before .before .before .before .before .before .before .before .before .before .before .loop in
     let s = c .before .before .before .before .before .before .queue-cell in (
       omega arith,
-      queued-next (isDue (c .before .before .before .before .before .before .before .before .before .before .before .before .before .before .before .before .before .before .args .kind .now) (c .before .before .before .before .before .before .before .before .before .before .before .before .before .before .before .before .before .before .args .flags .now) (c .before .before .before .before .before .before .before .before .before .before .before .before .before .before .before .before .before .before .args .marks .now)) (l .c) (l .inv .1) (s .ensures),
+      queued-next (isDue (entry .args .kind .now) (entry .args .flags .now) (entry .args .marks .now)) (l .c) (l .inv .1) (s .ensures),
       s .kept .1 .1 .0 ∙ l .inv .2,
       s .kept .1 .1 .1 .0 ∙ l .inv .3,
       s .kept .1 .1 .1 .1 .0 ∙ l .inv .4,

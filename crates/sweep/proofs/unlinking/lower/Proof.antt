@@ -1,12 +1,12 @@
 -- `sweep::unlinking::lower` meets its contract. Assumes nothing.
 use mathlib.Core.Path.{refl}
-use Rattle.sweep.proofs.Lowers.{lowered-empty, lowered-one, lowered-zero}
+use Rattle.sweep.proofs.Lowers.{taken-off-empty, taken-off-one, taken-off-zero}
 use borrow.Author.Needs.{needs}
 use Rattle.sweep.proofs.unlinking.lower.Statement.{statement}
 use Rattle.sweep.proofs.unlinking.lower.Tie as tie
 
 returns : tie.Need-returns
-returns c = lowered-empty (c .before .args .reference) (c .if1 .taken)
+returns c = taken-off-empty (c .before .args .reference) (c .if1 .taken)
 
 sub-c : tie.Need-sub-c
 sub-c c = search needs
@@ -18,7 +18,7 @@ slice-read-if2 : tie.Need-slice-read-if2
 slice-read-if2 c = search needs
 
 returns-2 : tie.Need-returns-2
-returns-2 c = lowered-zero (c .before .before .before .args .reference) (c .before .before .if1 .left) (c .if2 .taken)
+returns-2 c = taken-off-zero (c .before .before .before .args .reference) (c .before .before .if1 .left) (c .if2 .taken)
 
 mul-count : tie.Need-mul-count
 mul-count c = search needs
@@ -39,7 +39,7 @@ same-length : tie.Need-same-length
 same-length c = search needs
 
 returns-3 : tie.Need-returns-3
-returns-3 c = lowered-one (c .before .before .before .before .args .reference) (c .before .before .before .if1 .left) refl
+returns-3 c = taken-off-one (c .before .before .before .before .args .reference) (c .before .before .before .if1 .left) refl
 
 pub lower-spec : {M : Type 1} → statement M
 lower-spec =

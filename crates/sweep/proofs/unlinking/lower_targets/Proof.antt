@@ -6,7 +6,7 @@ use lib.ListN.{length, take}
 use lib.Dec.{lit≤}
 use Rattle.rules.specs.Heap.{slotsOf}
 use Rattle.sweep.specs.Phases.{TakenOff}
-use Rattle.sweep.proofs.Lowers.{lowered-start, lowered-next, lowered-all}
+use Rattle.sweep.proofs.Lowers.{taken-off-start, taken-off-next, taken-off-all}
 use borrow.Author.Needs.{needs}
 use Rattle.sweep.proofs.unlinking.lower_targets.Statement.{statement}
 use Rattle.sweep.proofs.unlinking.lower_targets.Tie as tie
@@ -18,7 +18,7 @@ abbrev μ-loop : tie.MeasureT-loop
 μ-loop count₀ slots c k₀ count k = 8 - k
 
 loop-holds : tie.Need-loop-holds Inv-loop μ-loop
-loop-holds c = (lit≤ tt, refl, lowered-start (slotsOf (c .before .before .args .slots .now) (c .before .before .args .c)))
+loop-holds c = (lit≤ tt, refl, taken-off-start (slotsOf (c .before .before .args .slots .now) (c .before .before .args .c)))
 
 mul-lower : tie.Need-mul-lower Inv-loop μ-loop
 mul-lower c = search needs
@@ -33,7 +33,10 @@ shared-slice-read-lower : tie.Need-shared-slice-read-lower Inv-loop μ-loop
 shared-slice-read-lower c = omega (arith, c .before .before .before .before .before .before .pre .0 .fit)
 
 lower-requires : tie.Need-lower-requires Inv-loop μ-loop
-lower-requires c κs = omega (arith, c .before .before .before .before .before .before .pre .0 .within (8 * c .before .before .before .before .before .before .args .c + c .before .before .before .loop .k), c .before .before .before .loop .inv .1)
+lower-requires c κs =
+    let entry = c .before .before .before .before .before .before in
+    let loop = c .before .before .before .loop in
+    omega (arith, entry .pre .0 .within (8 * entry .args .c + loop .k), loop .inv .1)
 
 add-k : tie.Need-add-k Inv-loop μ-loop
 add-k c = search needs
@@ -43,15 +46,21 @@ loop-less c = search needs
 
 loop-again : tie.Need-loop-again Inv-loop μ-loop
 loop-again c =
+    let entry = c .before .before .before .before .before .before .before .before .before in
     let l = c .before .before .before .before .before .before .loop in
-    let s = c .before .before .lower in
-    (omega arith, s .kept .0 ∙ l .inv .1, lowered-next (c .before .before .before .before .before .before .before .before .before .args .slots .now) (c .before .before .before .before .before .before .before .before .before .args .c) (length (c .before .before .before .before .before .before .before .before .before .args .count .now)) (c .before .before .before .before .before .before .before .before .before .pre .0 .fit) (c .before .before .before .before .before .before .before .before .before .pre .1) (l .k) (omega arith) (l .inv .2) (s .ensures))
+    let s = c .before .before .lower in (
+      omega arith,
+      s .kept .0 ∙ l .inv .1,
+      taken-off-next (entry .args .slots .now) (entry .args .c) (length (entry .args .count .now)) (entry .pre .0 .fit) (entry .pre .1) (l .k) (omega arith) (l .inv .2) (s .ensures),
+    )
 
 same-length : tie.Need-same-length Inv-loop μ-loop
 same-length c = c .before .loop .inv .1
 
 returns : tie.Need-returns Inv-loop μ-loop
-returns c = lowered-all (c .before .before .before .before .args .slots .now) (c .before .before .before .before .args .c) (length (c .before .before .before .before .args .count .now)) (c .before .before .before .before .pre .0 .fit) (c .before .before .before .before .pre .1) (c .before .loop .k) (omega arith) (c .before .loop .inv .2)
+returns c =
+    let entry = c .before .before .before .before in
+    taken-off-all (entry .args .slots .now) (entry .args .c) (length (entry .args .count .now)) (entry .pre .0 .fit) (entry .pre .1) (c .before .loop .k) (omega arith) (c .before .loop .inv .2)
 
 pub lower-targets-spec : {M : Type 1} → statement M
 lower-targets-spec =

@@ -20,7 +20,11 @@ same-length : tie.Need-same-length
 same-length c = search needs
 
 returns-2 : tie.Need-returns-2
-returns-2 c = unlinked-one (c .before .before .before .before .before .before .before .before .before .before .args .c) (sym (c .before .before .before .before .before .is-garbage .ensures) ∙ not-false _ (c .before .before .before .before .if1 .left)) (c .before .before .lower-targets .ensures)
+returns-2 c =
+    unlinked-one
+    (c .before .before .before .before .before .before .before .before .before .before .args .c)
+    (sym (c .before .before .before .before .before .is-garbage .ensures) ∙ not-false _ (c .before .before .before .before .if1 .left))
+    (c .before .before .lower-targets .ensures)
 
 pub unlink-cell-spec : {M : Type 1} → statement M
 unlink-cell-spec =

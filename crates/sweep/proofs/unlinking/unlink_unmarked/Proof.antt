@@ -16,7 +16,9 @@ abbrev μ-loop : tie.MeasureT-loop
 μ-loop kind count₀ slots marks c₀ c-end count c = length kind - c
 
 loop-holds : tie.Need-loop-holds Inv-loop μ-loop
-loop-holds c = (omega arith, refl, unlinked-start (isGarbage (c .before .before .before .before .args .kind .now) (c .before .before .before .before .args .marks .now)))
+loop-holds c =
+    let entry = c .before .before .before .before in
+    (omega arith, refl, unlinked-start (isGarbage (entry .args .kind .now) (entry .args .marks .now)))
 
 unlink-cell-requires : tie.Need-unlink-cell-requires Inv-loop μ-loop
 unlink-cell-requires c κs = ((omega arith, omega arith), (rw (c .before .before .loop .inv .1) (c .before .before .before .before .before .before .before .pre .1), omega arith))
@@ -29,9 +31,10 @@ loop-less c = omega arith
 
 loop-again : tie.Need-loop-again Inv-loop μ-loop
 loop-again c =
+    let entry = c .before .before .before .before .before .before .before .before .before .before in
     let l = c .before .before .before .before .before .loop in
     let s = c .before .before .unlink-cell in
-    (omega arith, s .kept .1 .0 ∙ l .inv .1, unlinked-next (isGarbage (c .before .before .before .before .before .before .before .before .before .before .args .kind .now) (c .before .before .before .before .before .before .before .before .before .before .args .marks .now)) (l .c) (l .inv .2) (s .ensures))
+    (omega arith, s .kept .1 .0 ∙ l .inv .1, unlinked-next (isGarbage (entry .args .kind .now) (entry .args .marks .now)) (l .c) (l .inv .2) (s .ensures))
 
 same-length : tie.Need-same-length Inv-loop μ-loop
 same-length c = c .before .loop .inv .1

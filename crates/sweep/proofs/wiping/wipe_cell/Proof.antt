@@ -9,7 +9,9 @@ use Rattle.sweep.proofs.wiping.wipe_cell.Statement.{statement}
 use Rattle.sweep.proofs.wiping.wipe_cell.Tie as tie
 
 is-garbage-requires : tie.Need-is-garbage-requires
-is-garbage-requires c κs = (c .before .before .before .before .before .before .pre .1 .0, omega (arith, c .before .before .before .before .before .before .pre .1 .1))
+is-garbage-requires c κs =
+    let entry = c .before .before .before .before .before .before in
+    (entry .pre .1 .0, omega (arith, entry .pre .1 .1))
 
 same-length : tie.Need-same-length
 same-length c = search needs
@@ -39,19 +41,30 @@ clear-slots-requires : tie.Need-clear-slots-requires
 clear-slots-requires c κs = omega (arith, c .before .before .before .before .before .before .before .before .before .pre .0 .slots-size)
 
 same-length-2 : tie.Need-same-length-2
-same-length-2 c = length-set (c .before .before .before .before .before .before .before .before .before .before .before .before .args .kind .now) (c .before .before .before .before .before .before .before .before .before .before .before .before .args .c) 0
+same-length-2 c =
+    let entry = c .before .before .before .before .before .before .before .before .before .before .before .before in
+    length-set (entry .args .kind .now) (entry .args .c) 0
 
 same-length-3 : tie.Need-same-length-3
-same-length-3 c = length-set (c .before .before .before .before .before .before .before .before .before .before .before .before .args .flags .now) (c .before .before .before .before .before .before .before .before .before .before .before .before .args .c) 0
+same-length-3 c =
+    let entry = c .before .before .before .before .before .before .before .before .before .before .before .before in
+    length-set (entry .args .flags .now) (entry .args .c) 0
 
 same-length-4 : tie.Need-same-length-4
-same-length-4 c = length-set (c .before .before .before .before .before .before .before .before .before .before .before .before .args .count .now) (c .before .before .before .before .before .before .before .before .before .before .before .before .args .c) 0
+same-length-4 c =
+    let entry = c .before .before .before .before .before .before .before .before .before .before .before .before in
+    length-set (entry .args .count .now) (entry .args .c) 0
 
 same-length-5 : tie.Need-same-length-5
 same-length-5 c = c .before .before .clear-slots .kept .0
 
 returns-2 : tie.Need-returns-2
-returns-2 c = freed-one (c .before .before .before .before .before .before .before .before .before .before .before .before .args .c) (sym (c .before .before .before .before .before .is-garbage .ensures) ∙ not-false _ (c .before .before .before .before .if1 .left)) refl refl refl (c .before .before .clear-slots .ensures)
+returns-2 c =
+    let entry = c .before .before .before .before .before .before .before .before .before .before .before .before in
+    freed-one
+    (entry .args .c)
+    (sym (c .before .before .before .before .before .is-garbage .ensures) ∙ not-false _ (c .before .before .before .before .if1 .left)) refl refl refl
+    (c .before .before .clear-slots .ensures)
 
 pub wipe-cell-spec : {M : Type 1} → statement M
 wipe-cell-spec =

@@ -10,21 +10,38 @@ use Rattle.sweep.proofs.wiping.wipe_unmarked.Statement.{statement}
 use Rattle.sweep.proofs.wiping.wipe_unmarked.Tie as tie
 
 abbrev Inv-loop : tie.InvT-loop
-Inv-loop kind₀ flags₀ count₀ slots₀ marks freed₀ c₀ c-end kind flags count slots freed c = (c ≤ length kind₀) × Freed kind₀ flags₀ count₀ slots₀ (select (isGarbage kind₀ marks) c) kind flags count slots freed × (length kind ≡ length kind₀) × (length flags ≡ length flags₀) × (length count ≡ length count₀) × (length slots ≡ length slots₀)
+Inv-loop kind₀ flags₀ count₀ slots₀ marks freed₀ c₀ c-end kind flags count slots freed c =
+    (c ≤ length kind₀) × Freed kind₀ flags₀ count₀ slots₀ (select (isGarbage kind₀ marks) c) kind flags count slots freed × (length kind ≡ length kind₀)
+    × (length flags ≡ length flags₀) × (length count ≡ length count₀) × (length slots ≡ length slots₀)
 
 abbrev μ-loop : tie.MeasureT-loop
 μ-loop kind₀ flags₀ count₀ slots₀ marks freed₀ c₀ c-end kind flags count slots freed c = length kind₀ - c
 
 loop-holds : tie.Need-loop-holds Inv-loop μ-loop
-loop-holds c = (omega arith, freed-start (isGarbage (c .before .before .before .before .before .args .kind .now) (c .before .before .before .before .before .args .marks .now)), refl, refl, refl, refl)
+loop-holds c =
+    let entry = c .before .before .before .before .before in
+    (omega arith, freed-start (isGarbage (entry .args .kind .now) (entry .args .marks .now)), refl, refl, refl, refl)
 
 wipe-cell-requires : tie.Need-wipe-cell-requires Inv-loop μ-loop
 wipe-cell-requires c κs =
-    let len = freed-length (c .before .before .before .before .before .before .before .before .before .before .before .args .marks .now) (c .before .before .before .before .before .loop .c) (omega arith) (c .before .before .before .before .before .before .before .before .before .before .before .pre .0) (c .before .before .before .before .before .loop .inv .1) in
-    (freed-same (c .before .before .before .before .before .before .before .before .before .before .before .args .marks .now) (c .before .before .before .before .before .loop .c) (omega arith) (c .before .before .before .before .before .before .before .before .before .before .before .pre .0) (c .before .before .before .before .before .loop .inv .1), (omega arith, c .before .before .before .before .before .before .before .before .before .before .before .pre .1 .0 ∙ sym len))
+    let entry = c .before .before .before .before .before .before .before .before .before .before .before in
+    let loop = c .before .before .before .before .before .loop in
+    let len = freed-length (entry .args .marks .now) (loop .c) (omega arith) (entry .pre .0) (loop .inv .1) in
+    (freed-same (entry .args .marks .now) (loop .c) (omega arith) (entry .pre .0) (loop .inv .1), (omega arith, entry .pre .1 .0 ∙ sym len))
 
 add-freed : tie.Need-add-freed Inv-loop μ-loop
-add-freed c = omega (arith, freed-small (isGarbage (c .before .before .before .before .before .before .before .before .before .before .before .before .before .before .before .before .before .before .before .before .args .kind .now) (c .before .before .before .before .before .before .before .before .before .before .before .before .before .before .before .before .before .before .before .before .args .marks .now)) (c .before .before .before .before .before .before .before .before .before .before .before .before .before .before .loop .c) (isGarbage (c .before .before .before .before .before .before .before .before .before .before .before .before .before .before .loop .kind) (c .before .before .before .before .before .before .before .before .before .before .before .before .before .before .before .before .before .before .before .before .args .marks .now) (c .before .before .before .before .before .before .before .before .before .before .before .before .before .before .loop .c)) (c .before .before .before .before .before .before .before .before .before .before .before .before .before .before .loop .inv .1) (c .before .before .before .before .before .before .before .before .wipe-cell .ensures))
+add-freed c =
+    let entry = c .before .before .before .before .before .before .before .before .before .before .before .before .before .before .before .before .before .before .before .before in
+    let loop = c .before .before .before .before .before .before .before .before .before .before .before .before .before .before .loop in
+    omega (
+      arith,
+      freed-small
+          (isGarbage (entry .args .kind .now) (entry .args .marks .now))
+          (loop .c)
+          (isGarbage (loop .kind) (entry .args .marks .now) (loop .c))
+          (loop .inv .1)
+          (c .before .before .before .before .before .before .before .before .wipe-cell .ensures),
+    )
 
 add-c : tie.Need-add-c Inv-loop μ-loop
 add-c c = omega arith
@@ -34,10 +51,11 @@ loop-less c = omega arith
 
 loop-again : tie.Need-loop-again Inv-loop μ-loop
 loop-again c =
+    let entry = c .before .before .before .before .before .before .before .before .before .before .before .before .before .before .before .before .before .before .before .before in
     let l = c .before .before .before .before .before .before .before .before .before .before .before .before .before .before .loop in
     let s = c .before .before .before .before .before .before .before .before .wipe-cell in (
       omega arith,
-      freed-next (c .before .before .before .before .before .before .before .before .before .before .before .before .before .before .before .before .before .before .before .before .args .marks .now) (l .c) (omega arith) (c .before .before .before .before .before .before .before .before .before .before .before .before .before .before .before .before .before .before .before .before .pre .0) (l .inv .1) (s .ensures),
+      freed-next (entry .args .marks .now) (l .c) (omega arith) (entry .pre .0) (l .inv .1) (s .ensures),
       s .kept .0 ∙ l .inv .2,
       s .kept .1 .0 ∙ l .inv .3,
       s .kept .1 .1 .0 ∙ l .inv .4,

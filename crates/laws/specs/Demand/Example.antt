@@ -1,0 +1,107 @@
+-- A list of thirteen calls on two cells, from a FRESH done on tables in which something stood: the tables and the answer of each, by computation.
+-- Assumes nothing.
+use Prim.Native.Nat.{ℕ}
+use mathlib.Core.List.{List, [], _∷_}
+use mathlib.Core.Path.{refl}
+use lib.ListN.{replicate}
+use Rattle.rules.specs.Lists.{every, all, below, occ, distinct, select}
+use Rattle.rules.specs.Heap.{Heap, tables, slotsOf, fresh, setKind, setFlags, setCount, setSlot, setRoot, setRunning, setQueue, enqueue, wipe}
+use Rattle.rules.specs.Check.{fits, cellOk, cellAt, refOk, entryOk, runningOk, refs, countOk, sound}
+use Rattle.rules.specs.Refusals.{Call, number, lowest, lowestFree, newOk, objectOk, conditions, isFresh, refusal}
+use Rattle.rules.specs.Refusals.Call.{FRESH, NEW, CLEAR, LOAD, STORE, COLLECT, START, FINISH}
+use Rattle.rules.specs.Release.{start, raise, incref, finalizable, refzero, lower, decref, decrefs, withPending, retire, serve, drain, release}
+use Rattle.rules.specs.Marking.{mark, markIf, spreadFrom, spread, closure, markFrom}
+use Rattle.rules.specs.Collect.{reachedMarks, unreachedFinalizable, enqueueAll, keptMarks, garbage, lowerAll, unlinkAll, wipeAll, rescued, rescueAll, swept, collect}
+use Rattle.rules.specs.Calls.{refuse, done, finished, allocate, writeRoot, writeSlot, startRun, leaveQueue, finishRun, act, byRefusal, step, answers, Did, Event, Trace, Begins, run}
+use Rattle.laws.specs.Demand.Events.{run-trace}
+
+-- tables for two cells: their kinds, flags and counts, the first slot of cell 0, the first two roots, the first queue entry, and control
+abbrev two : (k₀ k₁ f₀ n₀ n₁ slot r₀ r₁ q length running : ℕ) → Heap
+two k₀ k₁ f₀ n₀ n₁ slot r₀ r₁ q length running =
+    tables (k₀ ∷ k₁ ∷ []) (f₀ ∷ 0 ∷ []) (n₀ ∷ n₁ ∷ []) (slot ∷ replicate 15 0) (r₀ ∷ r₁ ∷ replicate 62 0) (q ∷ 0 ∷ []) (length ∷ running ∷ [])
+
+-- tables that fit and are not sound
+abbrev pub stale : Heap
+stale = tables (1 ∷ 9 ∷ []) (2 ∷ 2 ∷ []) (7 ∷ 0 ∷ []) (replicate 16 5) (replicate 64 3) (4 ∷ 4 ∷ []) (99 ∷ 99 ∷ [])
+
+abbrev pub empty : Heap
+empty = two 0 0 0 0 0 0 0 0 0 0 0
+
+-- two objects, of which the first comes to be all that holds the second
+abbrev pub oneObject : Heap
+oneObject = two 1 0 0 1 0 0 1 0 0 0 0
+
+abbrev twoObjects : Heap
+twoObjects = two 1 1 0 1 1 0 1 2 0 0 0
+
+abbrev stored : Heap
+stored = two 1 1 0 1 2 2 1 2 0 0 0
+
+abbrev pub holding : Heap
+holding = two 1 1 0 1 1 2 1 0 0 0 0
+
+-- an object with a finalizer, which comes to hold itself
+abbrev finalizableObject : Heap
+finalizableObject = two 1 0 1 1 0 0 1 0 0 0 0
+
+abbrev holdsItself : Heap
+holdsItself = two 1 0 1 2 0 1 1 0 0 0 0
+
+-- and then nothing else holds it, with these flags
+abbrev pub ring : ℕ → Heap
+ring flags = two 1 0 flags 1 0 1 0 0 0 0 0
+
+-- a sweep queues it, and its finalizer runs
+abbrev pub queuedRing : Heap
+queuedRing = two 1 0 1 2 0 1 0 0 1 1 0
+
+abbrev runningRing : Heap
+runningRing = two 1 0 1 3 0 1 1 0 1 1 1
+
+abbrev event : Call → Heap → (freed queued cell : ℕ) → Event
+event call after freed queued cell = record { call = call; after = after; answer = answers 0 freed queued cell }
+
+abbrev pub events : List Event
+events =
+    event (NEW 0 1 0) oneObject 0 0 0
+    ∷ event (NEW 1 1 0) twoObjects 0 0 1
+    ∷ event (STORE 0 0 1) stored 0 0 0
+    ∷ event (CLEAR 1) holding 0 0 0
+    ∷ event (STORE 0 0 1) oneObject 1 0 0
+    ∷ event (CLEAR 0) empty 1 0 0
+    ∷ event (NEW 0 1 1) finalizableObject 0 0 0
+    ∷ event (STORE 0 0 0) holdsItself 0 0 0
+    ∷ event (CLEAR 0) (ring 1) 0 0 0
+    ∷ event COLLECT queuedRing 0 1 0
+    ∷ event (START 0) runningRing 0 0 0
+    ∷ event FINISH (ring 3) 0 0 0
+    ∷ event COLLECT empty 1 0 0
+    ∷ []
+
+-- FRESH done on the stale tables and then the list; and two calls beside it, FRESH on a used cell, and LOAD from a root that is too high
+pub computed :
+    Did FRESH stale empty (answers 0 0 0 0) × Trace empty events × Did FRESH oneObject empty (answers 0 0 0 0) × Did (LOAD 0 64 0) empty empty (answers 3 0 0 0)
+unfolding every all below occ distinct select slotsOf fresh setKind setFlags setCount setSlot setRoot setRunning setQueue enqueue wipe fits cellOk
+    cellAt refOk entryOk runningOk refs countOk sound number lowest lowestFree newOk objectOk conditions isFresh refusal start raise incref finalizable
+    refzero lower decref decrefs withPending retire serve drain release mark markIf spreadFrom spread closure markFrom reachedMarks unreachedFinalizable
+    enqueueAll keptMarks garbage lowerAll unlinkAll wipeAll rescued rescueAll swept collect refuse done finished allocate writeRoot writeSlot startRun
+    leaveQueue finishRun act byRefusal step run
+computed = (
+  record { heap = refl; answered = refl },
+  run-trace empty
+      (NEW 0 1 0 ∷ NEW 1 1 0 ∷ STORE 0 0 1 ∷ CLEAR 1 ∷ STORE 0 0 1 ∷ CLEAR 0 ∷ NEW 0 1 1 ∷ STORE 0 0 0 ∷ CLEAR 0 ∷ COLLECT ∷ START 0 ∷ FINISH ∷ COLLECT ∷ []),
+  record { heap = refl; answered = refl },
+  record { heap = refl; answered = refl },
+)
+
+abbrev pub begins : Begins empty
+begins = record { stale = stale; answer = answers 0 0 0 0; did = computed .0; done = refl }
+
+pub trace : Trace empty events
+trace = computed .1
+
+pub fresh-clears : Did FRESH oneObject empty (answers 0 0 0 0)
+fresh-clears = computed .2
+
+pub load-refused : Did (LOAD 0 64 0) empty empty (answers 3 0 0 0)
+load-refused = computed .3

@@ -1,0 +1,106 @@
+-- A sweep made next on a sound heap is quiet exactly where the used cells are just the reached ones, and that is exactly where there is no loose ring.
+-- Assumes nothing.
+use Prim.Native.Nat.{ℕ, suc}
+use native.Mathlib.Omega.{arith}
+use native.Mathlib.Decide.{decLt}
+use mathlib.Core.List.{List, [], _∷_, _++_, map, append-nil}
+use mathlib.Core.Path.{_≡_, refl, sym, _∙_, ap, subst⁻¹}
+use mathlib.Core.Logic.{_↔_, by-cases}
+use lib.ListN.{length, length-append, length-map}
+use Rattle.rules.specs.declared.Answer.{Answer}
+use Rattle.rules.specs.Lists.{occ}
+use Rattle.rules.specs.Heap.{Heap, kindOf, entries, Free}
+use Rattle.rules.specs.Reach.{Exact, LooseRing}
+use Rattle.rules.specs.Refusals.{isFresh, refusalSound, conditions, lowest}
+use Rattle.rules.specs.Refusals.Call.{COLLECT}
+use Rattle.rules.specs.Collect.{unreachedFinalizable, garbage, collect}
+use Rattle.rules.specs.Calls.{Result, step, act, finished}
+use Rattle.rules.specs.Demand3.{NextSweep, QuietSweep, QuietAnswer}
+use Rattle.laws.specs.Lists.Occ.{occ-nil, occ-empty}
+use Rattle.laws.specs.Sound.But.{SoundBut}
+use Rattle.laws.specs.Sound.Facts.{facts-ready}
+use Rattle.laws.specs.Reach.Marked.{reached?}
+use Rattle.laws.specs.Reach.Graph.{exact-ring}
+use Rattle.laws.specs.Collect.Swept.{collect-entries, collect-freed, freed-collect, idle-exact, exact-idle}
+use Rattle.laws.specs.Calls.Admission.{step-done, ready-refused}
+
+module _ (h : Heap) (s : SoundBut h []) where
+  -- a sweep of a sound heap is done
+  step-collect : step h COLLECT ≡ finished (collect h)
+  unfolding refusalSound conditions lowest act isFresh
+  step-collect = step-done h COLLECT (ready-refused h COLLECT (facts-ready s) refl)
+
+  pub swept-heap : step h COLLECT .heap ≡ collect h .heap
+  unfolding finished
+  swept-heap = ap (λ (r : Result). r .heap) step-collect
+
+  swept-freed : step h COLLECT .answer .freed ≡ length (garbage h)
+  unfolding finished collect
+  swept-freed = ap (λ (r : Result). r .answer .freed) step-collect
+
+  swept-queued : step h COLLECT .answer .queued ≡ length (unreachedFinalizable h)
+  unfolding finished collect
+  swept-queued = ap (λ (r : Result). r .answer .queued) step-collect
+
+  -- the sweep that the rules make next
+  next : NextSweep h (step h COLLECT .heap) (step h COLLECT .answer)
+  unfolding finished
+  next = record { did = record { heap = refl; answered = refl }; done = ap (λ (r : Result). r .answer .refused) step-collect }
+
+  no-entries : (l : List ℕ) → length l ≡ 0 → l ≡ []
+  no-entries [] e = refl
+  no-entries (x ∷ l) e = absurd (omega arith)
+
+  pub counted-at : Exact h ↔ ¬ LooseRing h
+  counted-at = exact-ring h s (reached? h s)
+
+  pub quiet-at : QuietSweep h ↔ Exact h
+  quiet-at = (to, from)
+    where
+      to : QuietSweep h → Exact h
+      to q =
+          let at : q .after ≡ collect h .heap = q .sweep .did .heap ∙ swept-heap in
+          let same : entries (collect h .heap) ≡ entries h = sym (ap (λ (g : Heap). entries g) at) ∙ q .queuesNothing in
+          exact-idle h s
+          (no-entries (unreachedFinalizable h)
+          (omega (arith, ap length (sym (collect-entries h s) ∙ same), length-append (entries h) (map suc (unreachedFinalizable h)), length-map (unreachedFinalizable h) suc)))
+          (occ-empty (garbage h) (λ c. by-cases (decLt 0 (occ c (garbage h)))
+          (λ b.
+          let f = collect-freed h s c b in
+          absurd (q .freesNothing c (record { used = f .0; free = subst⁻¹ (λ (g : Heap). Free g c) at (f .1) })))
+          (λ n. omega arith)))
+
+      from : Exact h → QuietSweep h
+      from x =
+          let i = idle-exact h s x in
+          record {
+            after = step h COLLECT .heap;
+            answer = step h COLLECT .answer;
+            sweep = next;
+            freesNothing = λ c f.
+                let free = ap (λ (g : Heap). kindOf g c) (sym swept-heap) ∙ f .free in
+                omega (arith, freed-collect h s c (f .used) free, ap (occ c) (i .1), occ-nil c);
+            queuesNothing =
+                ap (λ (g : Heap). entries g) swept-heap ∙ collect-entries h s ∙ ap (λ (l : List ℕ). entries h ++ map suc l) (i .0) ∙ append-nil (entries h);
+          }
+
+  pub answered-at : QuietAnswer h ↔ Exact h
+  answered-at = (to, from)
+    where
+      to : QuietAnswer h → Exact h
+      to q =
+          let a : q .answer ≡ step h COLLECT .answer = q .sweep .did .answered in
+          exact-idle h s
+          (no-entries (unreachedFinalizable h) (sym swept-queued ∙ sym (ap (λ (x : Answer). x .queued) a) ∙ q .queued))
+          (no-entries (garbage h) (sym swept-freed ∙ sym (ap (λ (x : Answer). x .freed) a) ∙ q .freed))
+
+      from : Exact h → QuietAnswer h
+      from x =
+          let i = idle-exact h s x in
+          record {
+            after = step h COLLECT .heap;
+            answer = step h COLLECT .answer;
+            sweep = next;
+            freed = swept-freed ∙ ap length (i .1);
+            queued = swept-queued ∙ ap length (i .0);
+          }
