@@ -1,3 +1,4 @@
+ghost use Prim.Native.Nat.{_+_, _<_};
 ghost use mathlib.Core.Path.{_≡_};
 ghost use Rattle.numbers.specs.Numbers.{AsCell};
 
@@ -25,5 +26,13 @@ impl Cell {
         ensures { λ r. ⌜ r ≡ self .0 ⌝ }
     {
         self.0
+    }
+
+    // The reference that names the cell.
+    pub fn reference(self) -> u16
+        requires { ⌜ self .0 < 65535 ⌝ }
+        ensures { λ r. ⌜ r ≡ self .0 + 1 ⌝ }
+    {
+        self.0 as u16 + 1
     }
 }
