@@ -3,13 +3,10 @@ ghost use Rattle.rules.specs.Heap.{tables};
 ghost use Rattle.rules.specs.Sound.{Ready};
 ghost use Rattle.rules.specs.Calls.{Did};
 ghost use Rattle.rules.specs.Refusals.Call.{COLLECT};
-use calls_admission::admit;
-use calls_admission::refuse;
 use rules::Answer;
-use rules::DONE;
 
 // COLLECT on a sound heap.
-pub fn collect_sound(
+pub fn collect(
     kind: &mut [u16],
     flags: &mut [u16],
     count: &mut [u16],
@@ -24,25 +21,4 @@ pub fn collect_sound(
         (tables (now (kind .exit)) (now (flags .exit)) (now (count .exit)) (now (slots .exit)) (now (roots .entry)) (now (queue .exit)) (now (control .exit))) r ⌝ }
 {
     sweep::mark_and_sweep(kind, flags, count, slots, roots, queue, control)
-}
-
-// COLLECT: what roots and queue do not reach is queued for its finalizer or freed.
-pub fn collect(
-    kind: &mut [u16],
-    flags: &mut [u16],
-    count: &mut [u16],
-    slots: &mut [u16],
-    roots: &mut [u16],
-    queue: &mut [u16],
-    control: &mut [u16],
-) -> Answer
-    ensures { λ r. ⌜ Did COLLECT
-        (tables (now (kind .entry)) (now (flags .entry)) (now (count .entry)) (now (slots .entry)) (now (roots .entry)) (now (queue .entry)) (now (control .entry)))
-        (tables (now (kind .exit)) (now (flags .exit)) (now (count .exit)) (now (slots .exit)) (now (roots .exit)) (now (queue .exit)) (now (control .exit))) r ⌝ }
-{
-    let why = admit(kind, flags, count, slots, roots, queue, control);
-    if why != DONE {
-        return refuse(why);
-    }
-    collect_sound(kind, flags, count, slots, roots, queue, control)
 }

@@ -6,6 +6,7 @@ ghost use mathlib.Core.Path.{_≡_};
 ghost use Prim.Native.Nat.{_≤_};
 ghost use lib.ListN.{length};
 ghost use Rattle.rules.specs.Heap.{tables};
+ghost use Rattle.rules.specs.Sound.{Ready};
 ghost use Rattle.counter.specs.Served.{Answered, AnsweredSome};
 use csv::scan::Scan;
 use csv::scan::scan_start;
@@ -38,6 +39,7 @@ fn serve_piece(
     scan: Scan,
     piece: &[u8],
 ) -> Served
+    requires { ⌜ Ready (tables (now kind) (now flags) (now count) (now slots) (now roots) (now queue) (now control)) ⌝ }
     requires { ⌜ length (now piece) ≤ 2048 ⌝ }
     ensures { λ r. ⌜ Answered scan
         (tables (now (kind .entry)) (now (flags .entry)) (now (count .entry)) (now (slots .entry)) (now (roots .entry)) (now (queue .entry)) (now (control .entry)))
@@ -76,7 +78,9 @@ fn end(
     queue: &mut [u16],
     control: &mut [u16],
     scan: Scan,
-) {
+)
+    requires { ⌜ Ready (tables (now kind) (now flags) (now count) (now slots) (now roots) (now queue) (now control)) ⌝ }
+{
     let mut out = io::buffer();
     let at = close(
         kind,
@@ -105,6 +109,7 @@ fn serve(
     control: &mut [u16],
     scan: Scan,
 ) -> Served
+    requires { ⌜ Ready (tables (now kind) (now flags) (now count) (now slots) (now roots) (now queue) (now control)) ⌝ }
     ensures { λ r. ⌜ AnsweredSome scan
         (tables (now (kind .entry)) (now (flags .entry)) (now (count .entry)) (now (slots .entry)) (now (roots .entry)) (now (queue .entry)) (now (control .entry)))
         (tables (now (kind .exit)) (now (flags .exit)) (now (count .exit)) (now (slots .exit)) (now (roots .exit)) (now (queue .exit)) (now (control .exit))) r ⌝ }

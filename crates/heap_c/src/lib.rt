@@ -1,17 +1,23 @@
-// The C engine's door: each call under its C name, on seven lent tables and plain numbers. A slice is a pointer and a length in C.
+// The C engine's door: each call under its C name, on seven lent tables and plain numbers, whatever they are. A slice is a pointer and a length in C.
+// A call is refused SIZE or DAMAGED here; what else it may be refused for, its own function tells on a heap that is sound by then.
 ghost use Rattle.rules.specs.Heap.{tables};
 ghost use Rattle.rules.specs.Calls.{Did};
 ghost use Rattle.rules.specs.Refusals.Call.{FRESH, NEW, CLEAR, COPY, LOAD, STORE, COLLECT, START, FINISH};
-use calls_clear::clear;
+use allocation::fresh;
+use allocation::new;
+use answers::refuse;
 use calls_collect::collect;
-use calls_copy::copy;
-use calls_finish::finish;
-use calls_fresh::fresh;
-use calls_load::load;
-use calls_new::new;
-use calls_start::start;
-use calls_store::store;
+use finalizers::finish;
+use finalizers::start;
 use rules::Answer;
+use rules::DONE;
+use rules::SIZE;
+use soundness::admit;
+use soundness::fits;
+use writes::clear;
+use writes::copy;
+use writes::load;
+use writes::store;
 
 #[no_mangle]
 pub extern "C" fn vek_fresh(
@@ -27,6 +33,9 @@ pub extern "C" fn vek_fresh(
         (tables (now (kind .entry)) (now (flags .entry)) (now (count .entry)) (now (slots .entry)) (now (roots .entry)) (now (queue .entry)) (now (control .entry)))
         (tables (now (kind .exit)) (now (flags .exit)) (now (count .exit)) (now (slots .exit)) (now (roots .exit)) (now (queue .exit)) (now (control .exit))) r ⌝ }
 {
+    if !fits(kind, flags, count, slots, roots, queue, control) {
+        return refuse(SIZE);
+    }
     fresh(kind, flags, count, slots, roots, queue, control)
 }
 
@@ -47,6 +56,10 @@ pub extern "C" fn vek_new(
         (tables (now (kind .entry)) (now (flags .entry)) (now (count .entry)) (now (slots .entry)) (now (roots .entry)) (now (queue .entry)) (now (control .entry)))
         (tables (now (kind .exit)) (now (flags .exit)) (now (count .exit)) (now (slots .exit)) (now (roots .exit)) (now (queue .exit)) (now (control .exit))) r ⌝ }
 {
+    let why = admit(kind, flags, count, slots, roots, queue, control);
+    if why != DONE {
+        return refuse(why);
+    }
     new(
         kind,
         flags,
@@ -76,6 +89,10 @@ pub extern "C" fn vek_clear(
         (tables (now (kind .entry)) (now (flags .entry)) (now (count .entry)) (now (slots .entry)) (now (roots .entry)) (now (queue .entry)) (now (control .entry)))
         (tables (now (kind .exit)) (now (flags .exit)) (now (count .exit)) (now (slots .exit)) (now (roots .exit)) (now (queue .exit)) (now (control .exit))) r ⌝ }
 {
+    let why = admit(kind, flags, count, slots, roots, queue, control);
+    if why != DONE {
+        return refuse(why);
+    }
     clear(kind, flags, count, slots, roots, queue, control, root)
 }
 
@@ -95,6 +112,10 @@ pub extern "C" fn vek_copy(
         (tables (now (kind .entry)) (now (flags .entry)) (now (count .entry)) (now (slots .entry)) (now (roots .entry)) (now (queue .entry)) (now (control .entry)))
         (tables (now (kind .exit)) (now (flags .exit)) (now (count .exit)) (now (slots .exit)) (now (roots .exit)) (now (queue .exit)) (now (control .exit))) r ⌝ }
 {
+    let why = admit(kind, flags, count, slots, roots, queue, control);
+    if why != DONE {
+        return refuse(why);
+    }
     copy(kind, flags, count, slots, roots, queue, control, to, from)
 }
 
@@ -115,6 +136,10 @@ pub extern "C" fn vek_load(
         (tables (now (kind .entry)) (now (flags .entry)) (now (count .entry)) (now (slots .entry)) (now (roots .entry)) (now (queue .entry)) (now (control .entry)))
         (tables (now (kind .exit)) (now (flags .exit)) (now (count .exit)) (now (slots .exit)) (now (roots .exit)) (now (queue .exit)) (now (control .exit))) r ⌝ }
 {
+    let why = admit(kind, flags, count, slots, roots, queue, control);
+    if why != DONE {
+        return refuse(why);
+    }
     load(
         kind,
         flags,
@@ -146,6 +171,10 @@ pub extern "C" fn vek_store(
         (tables (now (kind .entry)) (now (flags .entry)) (now (count .entry)) (now (slots .entry)) (now (roots .entry)) (now (queue .entry)) (now (control .entry)))
         (tables (now (kind .exit)) (now (flags .exit)) (now (count .exit)) (now (slots .exit)) (now (roots .exit)) (now (queue .exit)) (now (control .exit))) r ⌝ }
 {
+    let why = admit(kind, flags, count, slots, roots, queue, control);
+    if why != DONE {
+        return refuse(why);
+    }
     store(
         kind,
         flags,
@@ -174,6 +203,10 @@ pub extern "C" fn vek_collect(
         (tables (now (kind .entry)) (now (flags .entry)) (now (count .entry)) (now (slots .entry)) (now (roots .entry)) (now (queue .entry)) (now (control .entry)))
         (tables (now (kind .exit)) (now (flags .exit)) (now (count .exit)) (now (slots .exit)) (now (roots .exit)) (now (queue .exit)) (now (control .exit))) r ⌝ }
 {
+    let why = admit(kind, flags, count, slots, roots, queue, control);
+    if why != DONE {
+        return refuse(why);
+    }
     collect(kind, flags, count, slots, roots, queue, control)
 }
 
@@ -192,6 +225,10 @@ pub extern "C" fn vek_start(
         (tables (now (kind .entry)) (now (flags .entry)) (now (count .entry)) (now (slots .entry)) (now (roots .entry)) (now (queue .entry)) (now (control .entry)))
         (tables (now (kind .exit)) (now (flags .exit)) (now (count .exit)) (now (slots .exit)) (now (roots .exit)) (now (queue .exit)) (now (control .exit))) r ⌝ }
 {
+    let why = admit(kind, flags, count, slots, roots, queue, control);
+    if why != DONE {
+        return refuse(why);
+    }
     start(kind, flags, count, slots, roots, queue, control, root)
 }
 
@@ -209,5 +246,9 @@ pub extern "C" fn vek_finish(
         (tables (now (kind .entry)) (now (flags .entry)) (now (count .entry)) (now (slots .entry)) (now (roots .entry)) (now (queue .entry)) (now (control .entry)))
         (tables (now (kind .exit)) (now (flags .exit)) (now (count .exit)) (now (slots .exit)) (now (roots .exit)) (now (queue .exit)) (now (control .exit))) r ⌝ }
 {
+    let why = admit(kind, flags, count, slots, roots, queue, control);
+    if why != DONE {
+        return refuse(why);
+    }
     finish(kind, flags, count, slots, roots, queue, control)
 }

@@ -1,10 +1,14 @@
--- Document 01, "The program": the call that a line's four numbers name. "The call's number 1 to 8, then its arguments in the order above, unused ones 0."
+-- Document 01, "The program": the call that a line's four numbers name, and what it does. "The call's number 1 to 8, then its arguments in the order above, unused ones 0."
 -- Assumes nothing: these are definitions.
 use Prim.Native.Nat.{ℕ}
 use mathlib.Core.List.{List, [], _∷_}
 use mathlib.Core.Bool.{Bool, _&&_, _||_, cond}
 use lib.Dec.{eqb, leb}
+use mathlib.Core.Path.{_≡_}
 use lib.ListN.{getD}
+use Rattle.rules.specs.declared.Answer.{Answer}
+use Rattle.rules.specs.Heap.{Heap}
+use Rattle.rules.specs.Calls.{Result, refuse, step}
 use Rattle.rules.specs.Refusals.{Call}
 use Rattle.rules.specs.Refusals.Call.{NEW, CLEAR, COPY, LOAD, STORE, COLLECT, START, FINISH}
 
@@ -36,3 +40,13 @@ callNumbered n x y z = getD (callsByNumber x y z) n LINE
 
 unfoldable pub callOf : ℕ → ℕ → ℕ → ℕ → Asked
 callOf n x y z = cond (unusedZero (uses n) x y z) (callNumbered n x y z) LINE
+
+-- what is asked for is done; LINE "is refused 11 LINE" "and does nothing"
+unfoldable pub obey : Heap → Asked → Result
+obey h (call c) = step h c
+obey h LINE = refuse h 11
+
+-- what was asked for stands so to the tables before and after it and to its answer
+pub record Obeyed (asked : Asked) (before after : Heap) (answer : Answer) : Type 0 where
+  pub heap : after ≡ obey before asked .heap
+  pub answered : answer ≡ obey before asked .answer

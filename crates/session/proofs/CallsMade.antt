@@ -10,12 +10,12 @@ use Rattle.rules.specs.Refusals.{Call}
 use Rattle.rules.specs.Refusals.Call.{FRESH}
 use Rattle.rules.specs.Calls.{Result, answers, refuse, done, step, Between, Begins, run}
 use Rattle.rules.specs.Calls.Between.{first, behind}
-use Rattle.rules.specs.Asked.{Asked}
+use Rattle.rules.specs.Asked.{Asked, obey}
 use Rattle.rules.specs.Asked.Asked.{call, LINE}
 use Rattle.laws.specs.Calls.Admission.{step-fresh, fresh-ready}
 use Rattle.laws.specs.Demand.Events.{run-trace}
 use Rattle.laws.specs.Demand.Third.{demand-3}
-use Rattle.session.specs.Session.{askedOf, numberOf, lineOf, obey, afterLine, session, afterAll}
+use Rattle.session.specs.Session.{askedOf, numberOf, lineOf, afterLine, session, afterAll}
 use Rattle.session.specs.Program.{atStart}
 use Rattle.session.specs.CallsMade.{inFront, callsOf, made, Lined, Keeps}
 use Rattle.session.specs.CallsMade.Lined.{noLines, called, refusedLine}

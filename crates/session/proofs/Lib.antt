@@ -1,4 +1,3 @@
-pub mod Asked
 pub mod Session
 pub mod Sizes
 pub mod Delivery

@@ -1,27 +1,14 @@
--- Laws of a session: what was asked for, obeyed; lines after lines. Assumes nothing.
+-- Laws of a session: lines after lines. Assumes nothing.
 use Prim.Native.Nat.{ℕ}
-use mathlib.Core.Bool.{true}
-use mathlib.Core.Path.{_≡_, refl, sym, _∙_, ap}
+use mathlib.Core.Path.{_≡_, refl, sym, _∙_, ap, subst⁻¹}
 use mathlib.Core.List.{List, [], _∷_, _++_, append-assoc}
 use Rattle.csv.specs.declared.scan.Record.{Record}
-use Rattle.rules.specs.declared.Answer.{Answer}
+use Rattle.csv.specs.declared.scan.Scan.{Scan}
 use Rattle.rules.specs.Heap.{Heap}
-use Rattle.rules.specs.Refusals.{Call}
-use Rattle.rules.specs.Calls.{Did, answers, refuse}
-use Rattle.rules.specs.Asked.{Asked, uses, unusedZero, callNumbered, callOf}
-use Rattle.rules.specs.Asked.Asked.{call, LINE}
-use Rattle.session.specs.Session.{obey, Obeyed, lineFor, afterLine, session, afterAll}
-use Rattle.session.proofs.Asked.{call-numbered}
-
--- a call that was done
-pub obeyed-call : (h k : Heap) (n x y z : ℕ) (c : Call) (a : Answer) → unusedZero (uses n) x y z ≡ true → callNumbered n x y z ≡ call c → Did c h k a
-    → Obeyed (callOf n x y z) h k a
-unfolding obey
-obeyed-call h k n x y z c a u e d = rw (call-numbered n x y z (call c) u e) (record { heap = d .heap; answered = d .answered })
-
-pub obeyed-line : (h : Heap) (q : Asked) (a : Answer) → q ≡ LINE → a ≡ answers 11 0 0 0 → Obeyed q h h a
-unfolding obey refuse
-obeyed-line h q a e w = rw e (record { heap = refl; answered = w })
+use Rattle.rules.specs.Sound.{Ready}
+use Rattle.steps.proofs.Asked.{obey-ready}
+use Rattle.session.specs.Pieces.{Took}
+use Rattle.session.specs.Session.{askedOf, lineFor, afterLine, session, afterAll}
 
 pub session-append : (h : Heap) (l m : List Record) → session h (l ++ m) ≡ session h l ++ session (afterAll h l) m
 unfolding session afterAll
@@ -32,3 +19,12 @@ pub after-append : (h : Heap) (l m : List Record) → afterAll h (l ++ m) ≡ af
 unfolding afterAll
 after-append h [] m = refl
 after-append h (r ∷ l) m = after-append (afterLine h r) l m
+
+-- a sound heap stays sound
+pub after-ready : (h : Heap) → Ready h → (l : List Record) → Ready (afterAll h l)
+unfolding afterAll
+after-ready h ok [] = ok
+after-ready h ok (r ∷ l) = after-ready (afterLine h r) (obey-ready h ok (askedOf r)) l
+
+pub took-ready : {s t : Scan} {h k : Heap} {input : List ℕ} → Ready h → Took s h input t k → Ready k
+took-ready {h = h} ok took = subst⁻¹ Ready (took .heap) (after-ready h ok (took .lines))

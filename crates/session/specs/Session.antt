@@ -1,7 +1,6 @@
 -- Document 01, "The program": what each line of the input does, and the output line that it gets.
 -- Assumes nothing: these are definitions.
 use Prim.Native.Nat.{ℕ}
-use mathlib.Core.Path.{_≡_}
 use mathlib.Core.List.{List, [], _∷_, _++_}
 use mathlib.Core.Bool.{cond}
 use lib.Dec.{eqb}
@@ -10,9 +9,8 @@ use Rattle.csv.specs.declared.scan.Record.{Record}
 use Rattle.csv.specs.declared.scan.Record.the-variants.{Numbers, Malformed}
 use Rattle.rules.specs.declared.Answer.{Answer}
 use Rattle.rules.specs.Heap.{Heap}
-use Rattle.rules.specs.Calls.{Result, refuse, step}
-use Rattle.rules.specs.Asked.{Asked, callOf}
-use Rattle.rules.specs.Asked.Asked.{call, LINE}
+use Rattle.rules.specs.Asked.{Asked, callOf, obey}
+use Rattle.rules.specs.Asked.Asked.{LINE}
 
 -- what a line asks for: "the call's number 1 to 8, then its arguments"; "any other line" is LINE
 unfoldable pub askedOf : Record → Asked
@@ -23,16 +21,6 @@ askedOf Malformed = LINE
 unfoldable pub numberOf : Record → ℕ
 numberOf (Numbers n x y z) = n
 numberOf Malformed = 0
-
--- "is refused 11 LINE" "and does nothing"
-unfoldable pub obey : Heap → Asked → Result
-obey h (call c) = step h c
-obey h LINE = refuse h 11
-
--- what was asked for stands so to the tables before and after it and to its answer
-pub record Obeyed (asked : Asked) (before after : Heap) (answer : Answer) : Type 0 where
-  pub heap : after ≡ obey before asked .heap
-  pub answered : answer ≡ obey before asked .answer
 
 -- the output line of call n with this answer: refused 11 "with 0 as its call"
 abbrev pub lineOf : ℕ → Answer → List ℕ

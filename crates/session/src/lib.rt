@@ -1,5 +1,4 @@
 // Input lines in, output lines out, in pieces of any size, on one heap.
-mod ask;
 mod first;
 mod line;
 mod pieces;

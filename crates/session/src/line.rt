@@ -6,13 +6,14 @@ ghost use lib.Dec.{eqb};
 ghost use lib.ListN.{length};
 ghost use Rattle.csv.specs.Written.{Wrote};
 ghost use Rattle.rules.specs.Heap.{tables};
+ghost use Rattle.rules.specs.Sound.{Ready};
 ghost use Rattle.session.specs.Session.{lineOf, lineFor, afterLine};
-use crate::ask::LINE;
-use crate::ask::dispatch;
-use calls_admission::refuse;
+use answers::refuse;
 use csv::render::render;
 use csv::scan::Record;
 use rules::Answer;
+use steps::LINE;
+use steps::step;
 
 // The call's number in an output line: a line that is refused LINE has 0 as its call.
 fn number_of(op: u16, refused: u16) -> u16
@@ -54,6 +55,7 @@ pub fn answer(
     out: &mut [u8],
     at: usize,
 ) -> usize
+    requires { ⌜ Ready (tables (now kind) (now flags) (now count) (now slots) (now roots) (now queue) (now control)) ⌝ }
     requires { ⌜ at + 31 ≤ length (now out) ⌝ }
     ensures { λ r. ⌜ tables (now (kind .exit)) (now (flags .exit)) (now (count .exit)) (now (slots .exit)) (now (roots .exit)) (now (queue .exit)) (now (control .exit))
         ≡ afterLine (tables (now (kind .entry)) (now (flags .entry)) (now (count .entry)) (now (slots .entry)) (now (roots .entry)) (now (queue .entry)) (now (control .entry))) said ⌝ }
@@ -64,7 +66,7 @@ pub fn answer(
 {
     match said {
         Record::Numbers(op, x, y, z) => {
-            let a = dispatch(
+            let a = step(
                 kind,
                 flags,
                 count,

@@ -4,6 +4,7 @@ ghost use mathlib.Core.List.{[], _∷_};
 ghost use Prim.Native.Nat.{_+_, _*_, _≤_};
 ghost use lib.ListN.{length};
 ghost use Rattle.rules.specs.Heap.{tables};
+ghost use Rattle.rules.specs.Sound.{Ready};
 ghost use Rattle.csv.specs.Meaning.{scanStart};
 ghost use Rattle.session.specs.Pieces.{Progressed, InputEnded};
 use crate::line::answer;
@@ -42,6 +43,7 @@ fn take_byte(
     out: &mut [u8],
     at: usize,
 ) -> Progress
+    requires { ⌜ Ready (tables (now kind) (now flags) (now count) (now slots) (now roots) (now queue) (now control)) ⌝ }
     requires { ⌜ at + 31 ≤ length (now out) ⌝ }
     ensures { λ r. ⌜ Progressed scan (byte ∷ []) (now (out .entry)) at
         (tables (now (kind .entry)) (now (flags .entry)) (now (count .entry)) (now (slots .entry)) (now (roots .entry)) (now (queue .entry)) (now (control .entry)))
@@ -79,6 +81,7 @@ pub fn take_piece(
     piece: &[u8],
     out: &mut [u8],
 ) -> Progress
+    requires { ⌜ Ready (tables (now kind) (now flags) (now count) (now slots) (now roots) (now queue) (now control)) ⌝ }
     requires { ⌜ 31 * length (now piece) ≤ length (now out) ⌝ }
     ensures { λ r. ⌜ Progressed scan (now (piece .entry)) (now (out .entry)) 0
         (tables (now (kind .entry)) (now (flags .entry)) (now (count .entry)) (now (slots .entry)) (now (roots .entry)) (now (queue .entry)) (now (control .entry)))
@@ -120,6 +123,7 @@ pub fn close(
     scan: Scan,
     out: &mut [u8],
 ) -> usize
+    requires { ⌜ Ready (tables (now kind) (now flags) (now count) (now slots) (now roots) (now queue) (now control)) ⌝ }
     requires { ⌜ 31 ≤ length (now out) ⌝ }
     ensures { λ r. ⌜ InputEnded scan (now (out .entry))
         (tables (now (kind .entry)) (now (flags .entry)) (now (count .entry)) (now (slots .entry)) (now (roots .entry)) (now (queue .entry)) (now (control .entry)))

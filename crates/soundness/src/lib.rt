@@ -1,5 +1,8 @@
 // Whether the seven lent tables fit N cells, and whether the heap in them is sound.
 // Queue, roots and slots are read once, and the references in them tallied, so that no test has to search: entry r of the tally has how often the reference r was met so far, which names cell r - 1. Entry 0 takes the empty references, so that they need no test of their own; what it has says nothing.
+mod admission;
+
+pub use admission::admit;
 ghost use mathlib.Core.Path.{_≡_};
 ghost use mathlib.Core.Bool.{true, _&&_};
 ghost use mathlib.Core.List.{[], _∷_};

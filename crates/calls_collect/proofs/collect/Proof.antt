@@ -1,102 +1,61 @@
--- `calls_collect::collect` meets its contract: refused by what `admit` answers, or as the inner function does. Assumes nothing.
-use mathlib.Core.Path.{refl}
-use Rattle.rules.specs.Refusals.{isFresh}
-use Rattle.laws.specs.Calls.Admission.{outer-refused, outer-ready}
-use borrow.Author.Needs.{needs}
+-- `calls_collect::collect` meets its contract: nothing refuses a COLLECT on a sound heap. Assumes nothing.
+use Rattle.laws.specs.Sound.Facts.{ready-facts}
+use Rattle.calls_collect.proofs.Collecting.{collect-did}
 use Rattle.calls_collect.proofs.collect.Statement.{statement}
 use Rattle.calls_collect.proofs.collect.Tie as tie
 
-admit-requires : tie.Need-admit-requires
-admit-requires c κs = search needs
-
-refuse-requires : tie.Need-refuse-requires
-refuse-requires c κs = search needs
+mark-and-sweep-requires : tie.Need-mark-and-sweep-requires
+mark-and-sweep-requires c κs =
+    let entry = c .before .before .before .before .before .before .before .before .before .before .before .before .before in
+    ready-facts (entry .pre)
 
 same-length : tie.Need-same-length
-same-length c = refl
+same-length c =
+    let mark-and-sweep = c .before .before .before .before .before .before .before .before .before .before .before .before .mark-and-sweep in
+    (mark-and-sweep .kept .0)
 
 same-length-2 : tie.Need-same-length-2
-same-length-2 c = refl
+same-length-2 c =
+    let mark-and-sweep = c .before .before .before .before .before .before .before .before .before .before .before .before .mark-and-sweep in
+    (mark-and-sweep .kept .1 .0)
 
 same-length-3 : tie.Need-same-length-3
-same-length-3 c = refl
+same-length-3 c =
+    let mark-and-sweep = c .before .before .before .before .before .before .before .before .before .before .before .before .mark-and-sweep in
+    (mark-and-sweep .kept .1 .1 .0)
 
 same-length-4 : tie.Need-same-length-4
-same-length-4 c = refl
+same-length-4 c =
+    let mark-and-sweep = c .before .before .before .before .before .before .before .before .before .before .before .before .mark-and-sweep in
+    (mark-and-sweep .kept .1 .1 .1 .0)
 
 same-length-5 : tie.Need-same-length-5
-same-length-5 c = refl
+same-length-5 c =
+    let mark-and-sweep = c .before .before .before .before .before .before .before .before .before .before .before .before .mark-and-sweep in
+    (mark-and-sweep .kept .1 .1 .1 .1 .1 .0)
 
 same-length-6 : tie.Need-same-length-6
-same-length-6 c = refl
-
-same-length-7 : tie.Need-same-length-7
-same-length-7 c = refl
+same-length-6 c =
+    let mark-and-sweep = c .before .before .before .before .before .before .before .before .before .before .before .before .mark-and-sweep in
+    (mark-and-sweep .kept .1 .1 .1 .1 .1 .1 .0)
 
 returns : tie.Need-returns
-returns c = outer-refused (unfold isFresh in refl) (c .before .before .admit .ensures) (c .before .if1 .taken) (c .refuse .ensures)
-
-collect-sound-requires : tie.Need-collect-sound-requires
-collect-sound-requires c κs = outer-ready (c .before .before .before .before .before .before .before .before .admit .ensures) (c .before .before .before .before .before .before .before .if1 .left)
-
-same-length-8 : tie.Need-same-length-8
-same-length-8 c =
-    let collect-sound = c .before .before .before .before .before .before .before .before .before .before .before .before .collect-sound in
-    (collect-sound .kept .0)
-
-same-length-9 : tie.Need-same-length-9
-same-length-9 c =
-    let collect-sound = c .before .before .before .before .before .before .before .before .before .before .before .before .collect-sound in
-    (collect-sound .kept .1 .0)
-
-same-length-10 : tie.Need-same-length-10
-same-length-10 c =
-    let collect-sound = c .before .before .before .before .before .before .before .before .before .before .before .before .collect-sound in
-    (collect-sound .kept .1 .1 .0)
-
-same-length-11 : tie.Need-same-length-11
-same-length-11 c =
-    let collect-sound = c .before .before .before .before .before .before .before .before .before .before .before .before .collect-sound in
-    (collect-sound .kept .1 .1 .1 .0)
-
-same-length-12 : tie.Need-same-length-12
-same-length-12 c = refl
-
-same-length-13 : tie.Need-same-length-13
-same-length-13 c =
-    let collect-sound = c .before .before .before .before .before .before .before .before .before .before .before .before .collect-sound in
-    (collect-sound .kept .1 .1 .1 .1 .1 .0)
-
-same-length-14 : tie.Need-same-length-14
-same-length-14 c =
-    let collect-sound = c .before .before .before .before .before .before .before .before .before .before .before .before .collect-sound in
-    (collect-sound .kept .1 .1 .1 .1 .1 .1 .0)
-
-returns-2 : tie.Need-returns-2
-returns-2 c =
-    let collect-sound = c .before .before .before .before .before .before .before .before .before .before .before .before .collect-sound in
-    (collect-sound .ensures)
+returns c =
+    let entry =
+    c .before .before .before .before .before .before .before .before .before .before .before .before .before .before .before .before .before .before
+    .before .before .before .before .before .before .before .before in
+    let mark-and-sweep = c .before .before .before .before .before .before .before .before .before .before .before .before .mark-and-sweep in
+    collect-did (entry .pre) (mark-and-sweep .ensures)
 
 pub collect-spec : {M : Type 1} → statement M
 collect-spec =
     tie.close
     (tie.spec
-    admit-requires
-    refuse-requires
+    mark-and-sweep-requires
     same-length
     same-length-2
     same-length-3
     same-length-4
     same-length-5
     same-length-6
-    same-length-7
-    returns
-    collect-sound-requires
-    same-length-8
-    same-length-9
-    same-length-10
-    same-length-11
-    same-length-12
-    same-length-13
-    same-length-14
-    returns-2)
+    returns)

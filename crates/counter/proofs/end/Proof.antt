@@ -7,7 +7,9 @@ use Rattle.counter.proofs.end.Statement.{statement}
 use Rattle.counter.proofs.end.Tie as tie
 
 close-requires : tie.Need-close-requires
-close-requires c κs = omega (arith, c .before .before .before .before .before .before .before .before .buffer .ensures)
+close-requires c κs =
+    let entry = c .before .before .before .before .before .before .before .before .before .before .before .before .before .before .before .before in
+    (entry .pre, omega (arith, c .before .before .before .before .before .before .before .before .buffer .ensures))
 
 slice-aggregate-write-all : tie.Need-slice-aggregate-write-all
 slice-aggregate-write-all c =

@@ -6,7 +6,7 @@ use mathlib.Core.List.{List}
 use mathlib.Core.Path.{_≡_, refl, sym, _∙_}
 use lib.ListN.{length}
 use Rattle.rules.specs.Heap.{tables, fresh}
-use Rattle.counter.proofs.Running.{Running, running-begin, running-further}
+use Rattle.counter.proofs.Running.{Running, running-begin, running-further, running-ready}
 use borrow.Author.Needs.{needs}
 use Rattle.counter.proofs.run.Statement.{statement}
 use Rattle.counter.proofs.run.Tie as tie
@@ -69,7 +69,7 @@ run-spec =
     (λ c. sym (c .before .before .before .before .before .before .loop .inv .0 .roots))
     (λ c. sym (c .before .before .before .before .before .before .before .loop .inv .0 .queue))
     (λ c. sym (c .before .before .before .before .before .before .before .before .loop .inv .0 .control))
-    (λ c κs. tt)
+    (λ c κs. running-ready (c .before .before .before .before .before .before .before .before .loop .inv .1))
     (λ c. search needs)
     (λ c. search needs)
     (λ c. tt)

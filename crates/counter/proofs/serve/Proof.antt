@@ -25,7 +25,7 @@ serve-spec =
     (λ c. search needs)
     (λ c κs. tt)
     returns
-    (λ c κs. tt)
+    (λ c κs. c .before .before .before .before .before .before .before .before .before .before .before .before .before .before .before .before .before .before .before .before .pre)
     (λ c. c .before .before .before .before .before .before .before .before .before .before .before .before .before .before .end .kept .0)
     (λ c. c .before .before .before .before .before .before .before .before .before .before .before .before .before .before .end .kept .1 .0)
     (λ c. c .before .before .before .before .before .before .before .before .before .before .before .before .before .before .end .kept .1 .1 .0)
@@ -38,7 +38,11 @@ serve-spec =
     (λ c κs. tt)
     (λ c. search needs)
     (λ c. search needs)
-    (λ c κs. search needs)
+    (λ c κs. (
+      c .before .before .before .before .before .before .before .before .before .before .before .before .before .before .before .before .before .before
+          .before .before .before .before .before .pre,
+      search needs,
+    ))
     (λ c. c .before .before .before .before .before .before .before .before .before .before .before .before .before .before .serve-piece .kept .0)
     (λ c. c .before .before .before .before .before .before .before .before .before .before .before .before .before .before .serve-piece .kept .1 .0)
     (λ c. c .before .before .before .before .before .before .before .before .before .before .before .before .before .before .serve-piece .kept .1 .1 .0)

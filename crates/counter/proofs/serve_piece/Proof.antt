@@ -9,7 +9,7 @@ use Rattle.counter.proofs.serve_piece.Tie as tie
 take-piece-requires : tie.Need-take-piece-requires
 take-piece-requires c κs =
     let entry = c .before .before .before .before .before .before .before .before .before .before .before .before .before .before .before .before .before in
-    omega (arith, c .before .before .before .before .before .before .before .before .large-buffer .ensures, entry .pre)
+    (entry .pre .0, omega (arith, c .before .before .before .before .before .before .before .before .large-buffer .ensures, entry .pre .1))
 
 array-share-prefix-out : tie.Need-array-share-prefix-out
 array-share-prefix-out c =
@@ -25,7 +25,7 @@ array-share-prefix-out c =
       take-piece .ensures .room,
       take-piece .ensures .wrote .size,
       large-buffer .ensures,
-      entry .pre,
+      entry .pre .1,
     )
 
 slice-aggregate-write-all : tie.Need-slice-aggregate-write-all
@@ -43,7 +43,7 @@ slice-aggregate-write-all c =
       take-piece .ensures .room,
       take-piece .ensures .wrote .size,
       large-buffer .ensures,
-      entry .pre,
+      entry .pre .1,
     )))
 
 returns-2 : tie.Need-returns-2

@@ -1,7 +1,8 @@
 -- `session::line::answer` meets its contract, by cases on what the line says. Assumes nothing.
 use mathlib.Core.Path.{sym, refl}
 use Rattle.rules.specs.Calls.{refuse}
-use Rattle.session.specs.Session.{askedOf, numberOf, obey}
+use Rattle.rules.specs.Asked.{obey}
+use Rattle.session.specs.Session.{askedOf, numberOf}
 use borrow.Author.Needs.{needs}
 use Rattle.session.proofs.line.answer.Statement.{statement}
 use Rattle.session.proofs.line.answer.Tie as tie
@@ -12,11 +13,11 @@ returns c =
     let said =
     c .before .before .before .before .before .before .before .before .before .before .before .before .before .before .before .before .before .before
     .before .before .before .before .before .before .before .before .before .said in
-    let dispatch = c .before .before .before .before .before .before .before .before .before .before .before .before .before .before .before .before .before .before .dispatch in
+    let step = c .before .before .before .before .before .before .before .before .before .before .before .before .before .before .before .before .before .before .step in
     rw (said .given .1) (
-      dispatch .ensures .heap,
+      step .ensures .heap,
       (
-        rw (sym (dispatch .ensures .answered)) (c .before .before .write-answer .ensures .0),
+        rw (sym (step .ensures .answered)) (c .before .before .write-answer .ensures .0),
         c .before .before .write-answer .ensures .1,
       ),
     )
@@ -40,20 +41,21 @@ answer-spec =
     (λ c. search needs)
     (λ c. search needs)
     (λ c. search needs)
-    (λ c κs. tt)
+    (λ c κs.
+    c .before .before .before .before .before .before .before .before .before .before .before .before .before .before .before .before .before .before .pre .0)
     (λ c κs.
     c .before .before .before .before .before .before .before .before .before .before .before .before .before .before .before .before .before .before
-    .before .before .before .before .before .before .before .before .before .before .before .before .before .before .before .before .pre)
+    .before .before .before .before .before .before .before .before .before .before .before .before .before .before .before .before .pre .1)
     (λ c. search needs)
     (λ c κs. tt)
-    (λ c κs. c .before .before .before .before .before .before .before .before .before .before .before .before .pre)
-    (λ c. c .before .before .before .before .before .before .before .before .before .before .before .before .before .before .before .before .before .before .dispatch .kept .0)
-    (λ c. c .before .before .before .before .before .before .before .before .before .before .before .before .before .before .before .before .before .before .dispatch .kept .1 .0)
-    (λ c. c .before .before .before .before .before .before .before .before .before .before .before .before .before .before .before .before .before .before .dispatch .kept .1 .1 .0)
-    (λ c. c .before .before .before .before .before .before .before .before .before .before .before .before .before .before .before .before .before .before .dispatch .kept .1 .1 .1 .0)
-    (λ c. c .before .before .before .before .before .before .before .before .before .before .before .before .before .before .before .before .before .before .dispatch .kept .1 .1 .1 .1 .0)
-    (λ c. c .before .before .before .before .before .before .before .before .before .before .before .before .before .before .before .before .before .before .dispatch .kept .1 .1 .1 .1 .1 .0)
-    (λ c. c .before .before .before .before .before .before .before .before .before .before .before .before .before .before .before .before .before .before .dispatch .kept .1 .1 .1 .1 .1 .1 .0)
+    (λ c κs. c .before .before .before .before .before .before .before .before .before .before .before .before .pre .1)
+    (λ c. c .before .before .before .before .before .before .before .before .before .before .before .before .before .before .before .before .before .before .step .kept .0)
+    (λ c. c .before .before .before .before .before .before .before .before .before .before .before .before .before .before .before .before .before .before .step .kept .1 .0)
+    (λ c. c .before .before .before .before .before .before .before .before .before .before .before .before .before .before .before .before .before .before .step .kept .1 .1 .0)
+    (λ c. c .before .before .before .before .before .before .before .before .before .before .before .before .before .before .before .before .before .before .step .kept .1 .1 .1 .0)
+    (λ c. c .before .before .before .before .before .before .before .before .before .before .before .before .before .before .before .before .before .before .step .kept .1 .1 .1 .1 .0)
+    (λ c. c .before .before .before .before .before .before .before .before .before .before .before .before .before .before .before .before .before .before .step .kept .1 .1 .1 .1 .1 .0)
+    (λ c. c .before .before .before .before .before .before .before .before .before .before .before .before .before .before .before .before .before .before .step .kept .1 .1 .1 .1 .1 .1 .0)
     (λ c. c .before .before .write-answer .ensures .0 .size)
     returns
     (λ c. c .before .before .write-answer2 .ensures .0 .size)

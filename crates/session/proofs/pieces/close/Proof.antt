@@ -29,7 +29,7 @@ returns-2 c =
     (answer .ensures .0)
     (answer .ensures .1 .0)
     (answer .ensures .1 .1)
-    (entry .pre)
+    (entry .pre .1)
 
 pub close-spec : {M : Type 1} → statement M
 close-spec =

@@ -10,6 +10,7 @@ use lib.Seq.{take-suc, take-all, length-take-le}
 use Rattle.rules.specs.Heap.{tables}
 use Rattle.session.specs.Pieces.{Progressed}
 use Rattle.session.proofs.Sizes.{SameSizes, same-sizes}
+use Rattle.session.proofs.Session.{took-ready}
 use Rattle.session.proofs.Delivery.{progressed-none, progressed-more}
 use borrow.Author.Needs.{needs}
 use Rattle.session.proofs.pieces.take_piece.Statement.{statement}
@@ -31,13 +32,15 @@ loop-holds c = (omega arith, same-sizes _, progressed-none _ _ 0 _)
 take-byte-requires : tie.Need-take-byte-requires Inv-loop μ-loop
 take-byte-requires c κs =
     let entry = c .before .before .before .before .before .before .before .before .before .before .before .before .before .before .before .before .before .before .before .before .before in
-    let loop = c .before .before .before .before .before .before .before .before .before .before .before .loop in
-    omega (
-      arith,
-      length-take-le (loop .i) (now (entry .args .piece)) (omega arith),
-      loop .inv .2 .room,
-      loop .inv .2 .wrote .size,
-      entry .pre,
+    let loop = c .before .before .before .before .before .before .before .before .before .before .before .loop in (
+      took-ready (entry .pre .0) (loop .inv .2 .took),
+      omega (
+        arith,
+        length-take-le (loop .i) (now (entry .args .piece)) (omega arith),
+        loop .inv .2 .room,
+        loop .inv .2 .wrote .size,
+        entry .pre .1,
+      ),
     )
 
 add-i : tie.Need-add-i Inv-loop μ-loop

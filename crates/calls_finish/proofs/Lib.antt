@@ -1,3 +1,0 @@
-pub mod Both
-pub mod Leaving
-pub mod Popping

@@ -1,0 +1,4 @@
+pub mod Started
+pub mod Both
+pub mod Leaving
+pub mod Popping

@@ -1,0 +1,66 @@
+-- Laws of the call that four numbers name, and of what it does. Assumes nothing.
+use Prim.Native.Nat.{ℕ, zero, suc, _≤_}
+use native.Mathlib.Omega.{arith}
+use mathlib.Core.Path.{_≡_, refl}
+use mathlib.Core.Logic.{_⊎_, inl, inr}
+use mathlib.Core.Bool.{true, false}
+use lib.ListN.{List·getD-eq-default}
+use Rattle.rules.specs.declared.Answer.{Answer}
+use Rattle.rules.specs.Heap.{Heap}
+use Rattle.rules.specs.Sound.{Ready}
+use Rattle.rules.specs.Refusals.{Call}
+use Rattle.rules.specs.Calls.{Did, answers, refuse}
+use Rattle.rules.specs.Asked.{Asked, uses, unusedZero, callsByNumber, callNumbered, callOf, obey, Obeyed}
+use Rattle.rules.specs.Asked.Asked.{call, LINE}
+use Rattle.laws.specs.Demand.Step.{sound-step}
+
+pub uses-three : (n : ℕ) → ((n ≡ 6) ⊎ (n ≡ 8) → ⊥) → ((n ≡ 2) ⊎ (n ≡ 7) → ⊥) → (n ≡ 3 → ⊥) → uses n ≡ 3
+unfolding uses
+uses-three zero f g h = refl
+uses-three (suc zero) f g h = refl
+uses-three (suc (suc zero)) f g h = absurd (g (inl refl))
+uses-three (suc (suc (suc zero))) f g h = absurd (h refl)
+uses-three (suc (suc (suc (suc zero)))) f g h = refl
+uses-three (suc (suc (suc (suc (suc zero))))) f g h = refl
+uses-three (suc (suc (suc (suc (suc (suc zero)))))) f g h = absurd (f (inl refl))
+uses-three (suc (suc (suc (suc (suc (suc (suc zero))))))) f g h = absurd (g (inr refl))
+uses-three (suc (suc (suc (suc (suc (suc (suc (suc zero)))))))) f g h = absurd (f (inr refl))
+uses-three (suc (suc (suc (suc (suc (suc (suc (suc (suc n))))))))) f g h = refl
+
+none-numbered : (n x y z : ℕ) → 9 ≤ n → callNumbered n x y z ≡ LINE
+unfolding callNumbered
+none-numbered n x y z h = List·getD-eq-default (callsByNumber x y z) LINE h
+
+pub call-unused : (n x y z : ℕ) → unusedZero (uses n) x y z ≡ false → callOf n x y z ≡ LINE
+unfolding callOf
+call-unused n x y z h = rw h
+
+pub call-used : (n x y z : ℕ) → unusedZero (uses n) x y z ≡ true → callOf n x y z ≡ callNumbered n x y z
+unfolding callOf
+call-used n x y z h = rw h refl
+
+-- `omega` splits on at most six numbers that n is not
+from-five : (n : ℕ) → (n ≡ 0 → ⊥) → (n ≡ 1 → ⊥) → (n ≡ 2 → ⊥) → (n ≡ 3 → ⊥) → (n ≡ 4 → ⊥) → 5 ≤ n
+from-five n a b c d e = omega arith
+
+from-nine : (n : ℕ) → 5 ≤ n → (n ≡ 5 → ⊥) → (n ≡ 6 → ⊥) → (n ≡ 7 → ⊥) → (n ≡ 8 → ⊥) → 9 ≤ n
+from-nine n h a b c d = omega arith
+
+-- none of the calls' numbers, in the order of the `match`
+pub numbered-other : (n x y z : ℕ) → (n ≡ 1 → ⊥) → (n ≡ 2 → ⊥) → (n ≡ 3 → ⊥) → (n ≡ 4 → ⊥) → (n ≡ 5 → ⊥) → (n ≡ 6 → ⊥) → (n ≡ 7 → ⊥) → (n ≡ 8 → ⊥) → (n ≡ 0 → ⊥) → callNumbered n x y z ≡ LINE
+numbered-other n x y z a b c d e f g h i = none-numbered n x y z (from-nine n (from-five n i a b c d) e f g h)
+
+-- a call that was done
+pub obeyed-call : (h k : Heap) (q : Asked) (c : Call) (a : Answer) → q ≡ call c → Did c h k a → Obeyed q h k a
+unfolding obey
+obeyed-call h k q c a e d = rw e (record { heap = d .heap; answered = d .answered })
+
+pub obeyed-line : (h : Heap) (q : Asked) (a : Answer) → q ≡ LINE → a ≡ answers 11 0 0 0 → Obeyed q h h a
+unfolding obey refuse
+obeyed-line h q a e w = rw e (record { heap = refl; answered = w })
+
+-- a sound heap stays sound
+pub obey-ready : (h : Heap) → Ready h → (q : Asked) → Ready (obey h q .heap)
+unfolding obey refuse
+obey-ready h ok (call c) = sound-step h ok c
+obey-ready h ok LINE = ok

@@ -1,0 +1,319 @@
+-- `writes::objects::load` meets its contract.
+-- Assumes nothing.
+use native.Mathlib.Omega.{arith}
+use mathlib.Core.List.{[]}
+use mathlib.Core.Path.{refl}
+use Rattle.rules.specs.Refusals.{isFresh}
+use Rattle.laws.specs.Sound.Facts.{ready-facts}
+use Rattle.laws.specs.Reach.Used.{slot-used}
+use Rattle.laws.specs.Calls.Cases.{load-to, load-object, load-slot, load-empty, load-kind}
+use Rattle.laws.specs.Calls.Admission.{inner-refused}
+use Rattle.writes.proofs.Writes.{load-did}
+use Rattle.release.proofs.Written.{writable}
+use Rattle.writes.proofs.Found.{holding-ready, object-refused}
+use borrow.Author.Needs.{needs}
+use Rattle.writes.proofs.objects.load.Statement.{statement}
+use Rattle.writes.proofs.objects.load.Tie as tie
+
+of-requires : tie.Need-of-requires
+of-requires c κs = search needs
+
+enum-known-target : tie.Need-enum-known-target
+enum-known-target c = search needs
+
+enum-told : tie.Need-enum-told
+enum-told c = search needs
+
+refuse-requires : tie.Need-refuse-requires
+refuse-requires c κs = search needs
+
+returns : tie.Need-returns
+returns c =
+    inner-refused
+    (c .before .before .before .before .before .before .before .before .before .before .before .pre)
+    (unfold isFresh in refl)
+    (load-to _ _ _ _ (omega (arith, rw (c .before .enum-told .given .1) at (c .before .before .before .of .ensures))))
+    (λ e. omega arith)
+    (c .refuse .ensures)
+
+of-requires-2 : tie.Need-of-requires-2
+of-requires-2 c κs = search needs
+
+enum-known-holder : tie.Need-enum-known-holder
+enum-known-holder c = search needs
+
+enum-told-2 : tie.Need-enum-told-2
+enum-told-2 c = search needs
+
+refuse-requires-2 : tie.Need-refuse-requires-2
+refuse-requires-2 c κs = search needs
+
+returns-2 : tie.Need-returns-2
+returns-2 c =
+    let entry = c .before .before .before .before .before .before .before .before .before .before .before .before .before .before .before in
+    inner-refused
+    (entry .pre)
+    (unfold isFresh in refl)
+    (load-object _ _ _ _ (omega (arith, rw (c .before .enum-told2 .given .1) at (c .before .before .before .of2 .ensures))))
+    (λ e. omega arith)
+    (c .refuse2 .ensures)
+
+of-requires-3 : tie.Need-of-requires-3
+of-requires-3 c κs = search needs
+
+enum-known-at : tie.Need-enum-known-at
+enum-known-at c = search needs
+
+enum-told-3 : tie.Need-enum-told-3
+enum-told-3 c = search needs
+
+refuse-requires-3 : tie.Need-refuse-requires-3
+refuse-requires-3 c κs = search needs
+
+returns-3 : tie.Need-returns-3
+returns-3 c =
+    let entry = c .before .before .before .before .before .before .before .before .before .before .before .before .before .before .before .before .before .before .before in
+    inner-refused
+    (entry .pre)
+    (unfold isFresh in refl)
+    (load-slot _ _ _ _ (omega (arith, rw (c .before .enum-told3 .given .1) at (c .before .before .before .of3 .ensures))))
+    (λ e. omega arith)
+    (c .refuse3 .ensures)
+
+object-of-requires : tie.Need-object-of-requires
+object-of-requires c κs =
+    let entry = c .before .before .before .before .before .before .before .before .before .before .before .before .before .before .before .before .before .before .before .before .before in
+    holding-ready
+    (entry .pre)
+    (omega (
+      arith,
+      (rw (c .before .before .before .before .before .before .before .before .before .before .before .target .given .1)
+          at (c .before .before .before .before .before .before .before .before .before .before .before .before .before .of .ensures)),
+      (rw (c .before .before .before .before .before .before .before .holder .given .1) at (c .before .before .before .before .before .before .before .before .before .of2 .ensures)),
+    ))
+
+enum-known-why : tie.Need-enum-known-why
+enum-known-why c = search needs
+
+refuse-requires-4 : tie.Need-refuse-requires-4
+refuse-requires-4 c κs = search needs
+
+enum-known-cell : tie.Need-enum-known-cell
+enum-known-cell c = search needs
+
+index-requires : tie.Need-index-requires
+index-requires c κs = search needs
+
+mul-r : tie.Need-mul-r
+mul-r c =
+    let entry =
+    c .before .before .before .before .before .before .before .before .before .before .before .before .before .before .before .before .before .before
+    .before .before .before .before .before .before .before .before in
+    omega (
+      arith,
+      (rw (c .before .before .cell .given .1) at (c .before .before .before .before .object-of .ensures)),
+      (rw (c .before .before .before .before .before .before .before .before .at .given .1) at (c .before .before .before .before .before .before .before .before .before .before .of3 .ensures)),
+      (c .index .ensures),
+      (entry .pre .sized .most),
+    )
+
+index-requires-2 : tie.Need-index-requires-2
+index-requires-2 c κs = search needs
+
+add-r : tie.Need-add-r
+add-r c =
+    let entry =
+    c .before .before .before .before .before .before .before .before .before .before .before .before .before .before .before .before .before .before
+    .before .before .before .before .before .before .before .before .before in
+    omega (
+      arith,
+      (rw (c .before .before .before .cell .given .1) at (c .before .before .before .before .before .object-of .ensures)),
+      (rw (c .before .before .before .before .before .before .before .before .before .at .given .1)
+          at (c .before .before .before .before .before .before .before .before .before .before .before .of3 .ensures)),
+      (c .before .index .ensures),
+      (c .index2 .ensures),
+      (entry .pre .sized .most),
+    )
+
+mul-r-2 : tie.Need-mul-r-2
+mul-r-2 c =
+    let entry =
+    c .before .before .before .before .before .before .before .before .before .before .before .before .before .before .before .before .before .before
+    .before .before .before .before .before .before .before .before .before in
+    omega (
+      arith,
+      (rw (c .before .before .before .cell .given .1) at (c .before .before .before .before .before .object-of .ensures)),
+      (rw (c .before .before .before .before .before .before .before .before .before .at .given .1)
+          at (c .before .before .before .before .before .before .before .before .before .before .before .of3 .ensures)),
+      (c .before .index .ensures),
+      (c .index2 .ensures),
+      (entry .pre .sized .most),
+    )
+
+slice-read-r : tie.Need-slice-read-r
+slice-read-r c =
+    let entry =
+    c .before .before .before .before .before .before .before .before .before .before .before .before .before .before .before .before .before .before
+    .before .before .before .before .before .before .before .before .before .before in
+    let of3 = c .before .before .before .before .before .before .before .before .before .before .before .before .of3 in
+    omega (
+      arith,
+      (rw (c .before .before .before .before .cell .given .1) at (c .before .before .before .before .before .before .object-of .ensures)),
+      (rw (c .before .before .before .before .before .before .before .before .before .before .at .given .1) at (of3 .ensures)),
+      (c .before .before .index .ensures),
+      (c .before .index2 .ensures),
+      (entry .pre .sized .slots),
+    )
+
+write-root-requires : tie.Need-write-root-requires
+write-root-requires c κs =
+    let entry =
+    c .before .before .before .before .before .before .before .before .before .before .before .before .before .before .before .before .before .before
+    .before .before .before .before .before .before .before .before .before .before .before .before .before .before .before .before .before in
+    let target =
+    c .before .before .before .before .before .before .before .before .before .before .before .before .before .before .before .before .before .before
+    .before .before .before .before .before .before .before .target in
+    let of2 =
+    c .before .before .before .before .before .before .before .before .before .before .before .before .before .before .before .before .before .before
+    .before .before .before .before .before .of2 in
+    let holder = c .before .before .before .before .before .before .before .before .before .before .before .before .before .before .before .before .before .before .before .before .before .holder in
+    writable
+    (entry .pre)
+    (omega (
+      arith,
+      (rw (target .given .1)
+          at (c .before .before .before .before .before .before .before .before .before .before .before .before .before .before .before .before .before .before
+          .before .before .before .before .before .before .before .before .before .of .ensures)),
+      (rw (holder .given .1) at (of2 .ensures)),
+    ))
+    (slot-used _ [] (ready-facts (entry .pre)) _)
+
+same-length : tie.Need-same-length
+same-length c = refl
+
+same-length-2 : tie.Need-same-length-2
+same-length-2 c = refl
+
+returns-4 : tie.Need-returns-4
+returns-4 c =
+    let at-why = c .before .before in
+    let at-object-of = at-why .before .before in
+    let at-at = at-object-of .before .before .before .before in
+    let at-of3 = at-at .before .before in
+    let at-holder = at-of3 .before .before in
+    let at-of2 = at-holder .before .before in
+    let at-target = at-of2 .before .before in
+    let at-of = at-target .before .before in
+    let at-pre = at-of .before .before .before .before .before .before .before .before in
+    let to = (rw (at-target .target .given .1) at (at-of .of .ensures)) in
+    let of = (rw (at-holder .holder .given .1) at (at-of2 .of2 .ensures)) in
+    let at = (rw (at-at .at .given .1) at (at-of3 .of3 .ensures)) in
+    object-refused
+    (at-pre .pre)
+    (unfold isFresh in refl)
+    (load-empty _ _ _ _ (to .1) (of .1) (at .1))
+    (load-kind _ _ _ _ (to .1) (of .1) (at .1))
+    (of .0)
+    (rw (at-why .why .given .1) at (at-object-of .object-of .ensures))
+    (c .refuse4 .ensures)
+
+same-length-3 : tie.Need-same-length-3
+same-length-3 c =
+    let write-root = c .before .before .before .before .before .before .before .before .before .before .before .before .before .before .write-root in
+    (write-root .kept .0)
+
+same-length-4 : tie.Need-same-length-4
+same-length-4 c =
+    let write-root = c .before .before .before .before .before .before .before .before .before .before .before .before .before .before .write-root in
+    (write-root .kept .1 .0)
+
+same-length-5 : tie.Need-same-length-5
+same-length-5 c =
+    let write-root = c .before .before .before .before .before .before .before .before .before .before .before .before .before .before .write-root in
+    (write-root .kept .1 .1 .0)
+
+same-length-6 : tie.Need-same-length-6
+same-length-6 c =
+    let write-root = c .before .before .before .before .before .before .before .before .before .before .before .before .before .before .write-root in
+    (write-root .kept .1 .1 .1 .0)
+
+same-length-7 : tie.Need-same-length-7
+same-length-7 c =
+    let write-root = c .before .before .before .before .before .before .before .before .before .before .before .before .before .before .write-root in
+    (write-root .kept .1 .1 .1 .1 .0)
+
+same-length-8 : tie.Need-same-length-8
+same-length-8 c =
+    let write-root = c .before .before .before .before .before .before .before .before .before .before .before .before .before .before .write-root in
+    (write-root .kept .1 .1 .1 .1 .1 .0)
+
+same-length-9 : tie.Need-same-length-9
+same-length-9 c =
+    let write-root = c .before .before .before .before .before .before .before .before .before .before .before .before .before .before .write-root in
+    (write-root .kept .1 .1 .1 .1 .1 .1 .0)
+
+returns-5 : tie.Need-returns-5
+returns-5 c =
+    let at-write-root = c .before .before .before .before .before .before .before .before .before .before .before .before .before .before in
+    let at-index2 = at-write-root .before .before .before .before .before .before .before .before .before in
+    let at-index = at-index2 .before in
+    let at-cell = at-index .before .before in
+    let at-object-of = at-cell .before .before in
+    let at-at = at-object-of .before .before .before .before in
+    let at-of3 = at-at .before .before in
+    let at-holder = at-of3 .before .before in
+    let at-of2 = at-holder .before .before in
+    let at-target = at-of2 .before .before in
+    let at-of = at-target .before .before in
+    let at-pre = at-of .before .before .before .before .before .before .before .before in
+    load-did
+    (at-pre .pre)
+    (rw (at-holder .holder .given .1) at (at-of2 .of2 .ensures))
+    (rw (at-cell .cell .given .1) at (at-object-of .object-of .ensures))
+    (rw (at-target .target .given .1) at (at-of .of .ensures))
+    (rw (at-at .at .given .1) at (at-of3 .of3 .ensures))
+    (at-index .index .ensures)
+    (at-index2 .index2 .ensures)
+    (at-write-root .write-root .ensures)
+
+pub load-spec : {M : Type 1} → statement M
+load-spec =
+    tie.close
+    (tie.spec
+    of-requires
+    enum-known-target
+    enum-told
+    refuse-requires
+    returns
+    of-requires-2
+    enum-known-holder
+    enum-told-2
+    refuse-requires-2
+    returns-2
+    of-requires-3
+    enum-known-at
+    enum-told-3
+    refuse-requires-3
+    returns-3
+    object-of-requires
+    enum-known-why
+    refuse-requires-4
+    enum-known-cell
+    index-requires
+    mul-r
+    index-requires-2
+    add-r
+    mul-r-2
+    slice-read-r
+    write-root-requires
+    same-length
+    same-length-2
+    returns-4
+    same-length-3
+    same-length-4
+    same-length-5
+    same-length-6
+    same-length-7
+    same-length-8
+    same-length-9
+    returns-5)
