@@ -1,11 +1,6 @@
-# Builds, runs and installs. Whatever is built is proved first; `rt` comes with the Rattle kit.
-#
-#   make run < examples/basket.csv    the program, on standard input
-#   make host                         the example of an engine in C
-#   make test                         the whole gate
-#   make install PREFIX=/usr/local    the archive, its header and a pkg-config file; DESTDIR goes in front
+# Builds, runs and installs; `make help` lists what. Whatever is built is proved first; `rt` comes with the Rattle kit.
 
-VERSION = 1.0.0
+VERSION := $(shell awk -F'"' '/ VEK_VERSION / { print $$2 }' include/vekszalir.h)
 PREFIX ?= /usr/local
 DESTDIR ?=
 
@@ -14,32 +9,34 @@ PROGRAM = target/bin/counter
 ARCHIVE = target/staticlib/libheap_c.a
 HOST = target/host
 
-.PHONY: run host test install uninstall
+.PHONY: help run host test install uninstall
 
-run: $(PROGRAM)
+help: ## this list
+	@awk -F ':.*## ' 'NF == 2 && /^[a-z]/ { printf "make %-9s  %s\n", $$1, $$2 }' Makefile
+
+run: $(PROGRAM) ## the program, on standard input: make -s run < examples/basket.csv
 	@$(PROGRAM)
 
-host: $(HOST)
+host: $(HOST) ## the example of an engine in C, examples/host.c
 	@$(HOST)
 
-test:
+test: ## the whole gate
 	@.ci/run
 
-# What rt says goes to standard error: standard output is the program's own, and standard input too.
-$(PROGRAM): $(SOURCES)
-	@rt check counter >&2 </dev/null && touch $@
-
-$(ARCHIVE): $(SOURCES)
-	@rt staticlib heap_c >&2 </dev/null && touch $@
+# Standard output and standard input are the program's own: what the proofs say goes to standard error.
+$(PROGRAM): PROOF = check counter
+$(ARCHIVE): PROOF = staticlib heap_c
+$(PROGRAM) $(ARCHIVE): $(SOURCES)
+	@tools/prove $(PROOF) && touch -c $@
 
 $(HOST): examples/host.c include/vekszalir.h $(ARCHIVE)
 	@$(CC) -std=c11 -O2 -Wall -Wextra -Iinclude -o $@ $< $(ARCHIVE)
 
-install: $(ARCHIVE)
+install: $(ARCHIVE) ## the archive, its header and a pkg-config file, below PREFIX (/usr/local); DESTDIR goes in front
 	install -d "$(DESTDIR)$(PREFIX)/include" "$(DESTDIR)$(PREFIX)/lib/pkgconfig"
 	install -m 644 include/vekszalir.h "$(DESTDIR)$(PREFIX)/include/vekszalir.h"
 	install -m 644 $(ARCHIVE) "$(DESTDIR)$(PREFIX)/lib/libvekszalir.a"
 	sed -e 's|@PREFIX@|$(PREFIX)|' -e 's|@VERSION@|$(VERSION)|' include/vekszalir.pc.in > "$(DESTDIR)$(PREFIX)/lib/pkgconfig/vekszalir.pc"
 
-uninstall:
+uninstall: ## removes what install has put there
 	rm -f "$(DESTDIR)$(PREFIX)/include/vekszalir.h" "$(DESTDIR)$(PREFIX)/lib/libvekszalir.a" "$(DESTDIR)$(PREFIX)/lib/pkgconfig/vekszalir.pc"

@@ -12,7 +12,7 @@ static VEK_STORAGE(16) shop;
 /* Prints an answer. An engine that refuses to go on after a refusal needs no other test. */
 static vek_answer said(const char *what, vek_answer a)
 {
-    printf("%-44s refused %u, freed %u, queued %u, cell %u\n", what, a.refused, a.freed, a.queued, a.cell);
+    printf("%-44s %s, freed %u, queued %u, cell %u\n", what, vek_refusal_name(a.refused), a.freed, a.queued, a.cell);
     if (a.refused != VEK_DONE)
         exit(1);
     return a;
@@ -55,6 +55,7 @@ static void leave_a_ring(void)
 
 int main(void)
 {
+    printf("vekszalir %s\n", VEK_VERSION);
     said("a fresh heap of 16 cells", vek_fresh(VEK_LEND(shop)));
     fill_basket();
     said("the basket is thrown away", vek_clear(VEK_LEND(shop), BASKET));
@@ -64,6 +65,6 @@ int main(void)
     leave_a_ring();
     said("a sweep", vek_collect(VEK_LEND(shop)));
     vek_answer a = vek_clear(VEK_LEND(shop), 64);
-    printf("%-44s refused %u: there are roots 0 to 63\n", "root 64", a.refused);
+    printf("%-44s %s: there are roots 0 to 63\n", "root 64", vek_refusal_name(a.refused));
     return a.refused == VEK_NUMBER ? 0 : 1;
 }

@@ -19,6 +19,9 @@
  * a null pointer), and nobody else writes them during a call. Everything else is the heap's business: any
  * lengths, any contents and any numbers are answered, with a refusal where something is wrong.
  *
+ * The library keeps no state of its own, so heaps of different threads don't meet: two threads may each make calls
+ * on a heap of their own at the same time. One heap is for one call at a time.
+ *
  * What you get, proved for every list of calls from a vek_fresh that is done, if nobody else writes the tables
  * in between: no call frees a cell that your roots or the queue still reach; after each vek_collect that is
  * done the used cells are just the reached ones; and without a sweep the same holds exactly when no unreached
@@ -40,6 +43,8 @@
 #ifdef __cplusplus
 extern "C" {
 #endif
+
+#define VEK_VERSION "1.0.0"
 
 /* Limits. */
 #define VEK_CELLS_MAX 1024
@@ -74,6 +79,25 @@ extern "C" {
 typedef struct {
     uint16_t refused, freed, queued, cell;
 } vek_answer;
+
+/* The name of a refusal for a log, "DONE" for VEK_DONE and so on; "unknown" for a number that is none. */
+static inline const char *vek_refusal_name(uint16_t refused)
+{
+    switch (refused) {
+    case VEK_DONE: return "DONE";
+    case VEK_SIZE: return "SIZE";
+    case VEK_DAMAGED: return "DAMAGED";
+    case VEK_NUMBER: return "NUMBER";
+    case VEK_EMPTY: return "EMPTY";
+    case VEK_KIND: return "KIND";
+    case VEK_TAKEN: return "TAKEN";
+    case VEK_FULL: return "FULL";
+    case VEK_BUSY: return "BUSY";
+    case VEK_NONE: return "NONE";
+    case VEK_IDLE: return "IDLE";
+    default: return "unknown";
+    }
+}
 
 /* Room for a heap of n cells, and the words that lend its tables to a call:
 

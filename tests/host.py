@@ -1,15 +1,21 @@
 #!/usr/bin/env python3
-"""The heap as an engine in C uses it: the C programs of tests/, the example, and the installed package.
+"""The heap as an engine in C uses it, and the program as its user runs it.
 
 - Each program of tests/ is built with sanitizers against the proved archive and run.
+- The header by itself is valid C and C++, and names each refusal of its list and no other number; the archive has
+  nothing that a call could write and another call read.
 - examples/host.c, as C and as C++, prints what examples/host.txt says.
-- `make install` into an empty folder gives a package that the example builds with, by pkg-config alone; `make
-  uninstall` leaves no file there.
+- `make install` into an empty folder gives a package of the header's version that the example builds with, by
+  pkg-config alone; `make uninstall` leaves no file there.
+- `make` lists every target. `make run` writes what the program writes, and beside it one line for each crate; a crate
+  that is not proved is shown with what the prover says, and fails.
 
 The last line printed is 'N passed, M failed'.
 """
 import os
 import pathlib
+import re
+import shutil
 import subprocess
 import sys
 import tempfile
@@ -17,13 +23,32 @@ import tempfile
 TOP = pathlib.Path(__file__).resolve().parent.parent
 ARCHIVE = TOP / "target" / "staticlib" / "libheap_c.a"
 EXAMPLE = TOP / "examples" / "host.c"
-WARNINGS = ["-Wall", "-Wextra", "-Werror"]
+INCLUDE = f"-I{TOP / 'include'}"
+HEADER = (TOP / "include" / "vekszalir.h").read_text()
+WARNINGS = ["-Wall", "-Wextra", "-Wpedantic", "-Werror"]
 C, CXX = ["gcc", "-std=c11"], ["g++", "-std=c++17", "-x", "c++"]
 OWN_STACK = {"stack"}  # it changes to a stack of its own, which AddressSanitizer does not follow
 
+ALONE = '#include "vekszalir.h"\n'
+NAMES = f"""{ALONE}#include <stdio.h>
+int main(void)
+{{
+    for (unsigned number = 0; number <= UINT16_MAX; number++)
+        puts(vek_refusal_name((uint16_t)number));
+    return 0;
+}}
+"""
+GOOD = "pub fn seven() -> usize { 7 }\n"
+EXPORTS = '#[no_mangle] pub extern "C" fn eight() -> usize { 8 }\n'
+BROKEN = "ghost use mathlib.Core.Path.{_≡_};\npub fn eight() -> usize ensures { λ r. ⌜ r ≡ 8 ⌝ } { 7 }\n"
+
 
 def run(*command, **settings):
-    return subprocess.run([str(word) for word in command], capture_output=True, text=True, **settings)
+    return subprocess.run([str(word) for word in command], **{"capture_output": True, "text": True, **settings})
+
+
+def make(*words, cwd=TOP, **settings):
+    return run("make", "-s", *words, cwd=cwd, **settings)
 
 
 def built_and_run(folder, compiler, source, *flags):
@@ -42,33 +67,143 @@ def c_tests(folder):
         yield source.stem, *built_and_run(folder, C, source, f"-fsanitize={sanitizers}", ARCHIVE)
 
 
+def version():
+    return re.search(r'^#define VEK_VERSION "(.+)"$', HEADER, re.M)[1]
+
+
+def refusals():
+    """The name of each number in the header's list."""
+    listed = re.search(r"/\* Why a call was refused\. \*/\n((?:#define .*\n)+)", HEADER)[1]
+    return {int(number): name for name, number in re.findall(r"#define VEK_(\w+) (\d+)", listed)}
+
+
+def header(folder):
+    source = folder / "source.c"
+    names = [refusals().get(number, "unknown") for number in range(1 << 16)]
+    for language, compiler in (("C", C), ("C++", CXX)):
+        source.write_text(ALONE)
+        built = run(*compiler, *WARNINGS, INCLUDE, "-c", "-o", folder / "object", source)
+        yield f"header alone in {language}", built.stderr, built.returncode == 0
+        source.write_text(NAMES)
+        said, well = built_and_run(folder, compiler, source, "-fsanitize=undefined", INCLUDE)
+        wrong = [line for line, name in zip(said.splitlines(), names) if line != name]
+        well = well and said.splitlines() == names
+        yield f"names of refusals in {language}", "as listed" if well else " ".join(wrong), well
+
+
+def stateless(_):
+    """The archive has no section of data that can be written, or none with anything in it."""
+    shown = run("objdump", "-h", ARCHIVE)
+    sections = re.findall(r"^ +\d+ (\S+) +([0-9a-f]+) ", shown.stdout, re.M)
+    kept = [name for name, size in sections if re.match(r"\.t?(data|bss)", name) and int(size, 16) > 0]
+    yield "no state", " ".join([shown.stderr, *kept]), bool(sections) and not kept
+
+
 def example(name, folder, compiler, *flags):
-    expected = (TOP / "examples" / "host.txt").read_text()
+    expected = (TOP / "examples" / "host.txt").read_text().replace("@VERSION@", version())
     said, well = built_and_run(folder, compiler, EXAMPLE, *flags)
     return (name, "as expected", True) if well and said == expected else (name, said, False)
 
 
 def examples(folder):
-    lent = ["-fsanitize=address,undefined", f"-I{TOP / 'include'}", ARCHIVE]
+    lent = ["-fsanitize=address,undefined", INCLUDE, ARCHIVE]
     yield example("example in C", folder, C, *lent)
     yield example("example in C++", folder, CXX, *lent)
 
 
 def installed(folder):
     prefix = folder / "prefix"
-    made = run("make", "install", f"PREFIX={prefix}", cwd=TOP)
-    words = run("pkg-config", "--cflags", "--libs", "vekszalir", env={**os.environ, "PKG_CONFIG_PATH": f"{prefix}/lib/pkgconfig"})
+    made = make("install", f"PREFIX={prefix}")
+    package = {"env": {**os.environ, "PKG_CONFIG_PATH": f"{prefix}/lib/pkgconfig"}}
+    words = run("pkg-config", "--cflags", "--libs", "vekszalir", **package)
     yield "make install", made.stderr + words.stderr, made.returncode == 0 and words.returncode == 0
+    packed = run("pkg-config", "--modversion", "vekszalir", **package).stdout.strip()
+    yield "version of the package", packed, packed == version()
     yield example("example by pkg-config", folder, C, *words.stdout.split())
-    gone = run("make", "uninstall", f"PREFIX={prefix}", cwd=TOP)
+    gone = make("uninstall", f"PREFIX={prefix}")
     left = [str(path) for path in prefix.rglob("*") if path.is_file()]
     yield "make uninstall", " ".join([gone.stderr, *left]), gone.returncode == 0 and not left
+
+
+def targets(_):
+    phony = re.search(r"^\.PHONY: (.+)$", (TOP / "Makefile").read_text(), re.M)[1].split()
+    listed = make("help").stdout
+    well = [line.split()[:2] for line in listed.splitlines()] == [["make", target] for target in phony]
+    yield "make help", "every target" if well else listed, well
+    alone = make().stdout
+    yield "make alone", "the same" if alone == listed else alone, alone == listed
+
+
+def needed(crate):
+    """A crate with all that crates.txt says it rests on, the kit's libraries left out."""
+    lines = [line.split("#")[0].partition(":") for line in (TOP / "crates.txt").read_text().splitlines()]
+    listed = {name.strip(): needs.split() for name, colon, needs in lines if colon}
+    found, todo = set(), [crate]
+    while todo:
+        if (name := todo.pop()) in listed and name not in found:
+            found.add(name)
+            todo += listed[name]
+    return found
+
+
+def outcomes(crates, said):
+    """What the line of each crate says, if the lines have the form that they should, and there are no others."""
+    total = len(crates)
+    lines = [re.fullmatch(r"(\[ *\d+/\d+\]) (\w+), (\d+ s|proved before)", line) for line in said.splitlines()]
+    places = [f"[{place:{len(str(total))}}/{total}]" for place in range(1, total + 1)]
+    if not all(lines) or [line[1] for line in lines] != places or {line[2] for line in lines} != set(crates):
+        return None
+    return {line[2]: line[3] for line in lines}
+
+
+def program(_):
+    """Where crates.txt counts as changed, rt is asked for each crate anew, and finds it proved."""
+    place = TOP / "crates" / "counter"
+    make("run", stdin=subprocess.DEVNULL)
+    for name, words, crates in (("make run", ["-W", "crates.txt"], needed("counter")), ("make run again", [], [])):
+        with open(place / "stdin", "rb") as lines:
+            done = make("run", *words, stdin=lines, text=False)
+        said = done.stderr.decode()
+        told = outcomes(crates, said)
+        well = told is not None and set(told.values()) <= {"proved before"}
+        yield name, said or "silent", well and done.returncode == 0 and done.stdout == (place / "stdout").read_bytes()
+
+
+def repository(folder, crate, text):
+    """A copy of what `make` needs, with two crates: a good one, and above it one of a name that `make` asks for."""
+    folder.mkdir()
+    for part in ("Makefile", "include", "tools"):
+        copy = shutil.copytree if (TOP / part).is_dir() else shutil.copy
+        copy(TOP / part, folder / part)
+    (folder / "crates.txt").write_text(f"# Two crates.\ngood:\n{crate}: good io # and a library of the kit\n")
+    for name, source in (("good", GOOD), (crate, text)):
+        (folder / "crates" / name / "src").mkdir(parents=True)
+        (folder / "crates" / name / "src" / "lib.rt").write_text(source)
+    return folder
+
+
+def refused(folder, crate, target, file):
+    """Whether `make` fails to build a crate that is not proved, after the line of the good one, and shows where it is wrong."""
+    done = make(target, cwd=repository(folder, crate, BROKEN), stdin=subprocess.DEVNULL)
+    shown = rf"\[1/2\] good, \d+ s\n.*crates/{crate}/src/lib\.rt:2:.*\n\[2/2\] {crate}, not (proved|built)\n.*: {file}\] "
+    well = bool(re.match(shown, done.stderr, re.S)) and not done.stdout and done.returncode != 0
+    return f"make {target}, not proved", "refused" if well else done.stdout + done.stderr, well
+
+
+def small(folder):
+    """In a repository of two small crates, which are proved, or not, in seconds."""
+    archive = ARCHIVE.relative_to(TOP)
+    done = make(archive, cwd=repository(folder / "good", "heap_c", EXPORTS))
+    well = outcomes(["good", "heap_c"], done.stderr) is not None and not done.stdout and done.returncode == 0
+    yield "archive of two crates", done.stdout + done.stderr, well
+    yield refused(folder / "archive", "heap_c", archive, archive)
+    yield refused(folder / "program", "counter", "run", "target/bin/counter")
 
 
 def main():
     subprocess.run(["make", ARCHIVE.relative_to(TOP)], cwd=TOP, check=True)
     passed = failed = 0
-    for tests in (c_tests, examples, installed):
+    for tests in (c_tests, header, stateless, examples, installed, targets, program, small):
         with tempfile.TemporaryDirectory() as folder:
             for name, said, well in tests(pathlib.Path(folder)):
                 passed, failed = passed + well, failed + (not well)
