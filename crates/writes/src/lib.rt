@@ -1,8 +1,10 @@
 // The calls that write a reference, each on a sound heap.
+mod loading;
 mod objects;
 mod roots;
+mod storing;
 
-pub use objects::load;
-pub use objects::store;
+pub use loading::load;
 pub use roots::clear;
 pub use roots::copy;
+pub use storing::store;

@@ -1,4 +1,4 @@
--- `writes::objects::load` meets its contract.
+-- `writes::loading::load` meets its contract.
 -- Assumes nothing.
 use native.Mathlib.Omega.{arith}
 use mathlib.Core.List.{[]}
@@ -12,8 +12,8 @@ use Rattle.writes.proofs.Writes.{load-did}
 use Rattle.release.proofs.Written.{writable}
 use Rattle.writes.proofs.Found.{holding-ready, object-refused}
 use borrow.Author.Needs.{needs}
-use Rattle.writes.proofs.objects.load.Statement.{statement}
-use Rattle.writes.proofs.objects.load.Tie as tie
+use Rattle.writes.proofs.loading.load.Statement.{statement}
+use Rattle.writes.proofs.loading.load.Tie as tie
 
 of-requires : tie.Need-of-requires
 of-requires c κs = search needs

@@ -1,4 +1,4 @@
--- `writes::objects::store` meets its contract.
+-- `writes::storing::store` meets its contract.
 -- Assumes nothing.
 use native.Mathlib.Omega.{arith}
 use mathlib.Core.List.{[]}
@@ -12,8 +12,8 @@ use Rattle.writes.proofs.Writes.{store-did}
 use Rattle.release.proofs.Written.{slot-writable}
 use Rattle.writes.proofs.Found.{holding-ready, object-refused}
 use borrow.Author.Needs.{needs}
-use Rattle.writes.proofs.objects.store.Statement.{statement}
-use Rattle.writes.proofs.objects.store.Tie as tie
+use Rattle.writes.proofs.storing.store.Statement.{statement}
+use Rattle.writes.proofs.storing.store.Tie as tie
 
 of-requires : tie.Need-of-requires
 of-requires c κs = search needs
