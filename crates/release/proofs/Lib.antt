@@ -1,6 +1,7 @@
 pub mod Due
 pub mod Step
 pub mod Run
+pub mod Listing
 pub mod Serving
 pub mod Released
 pub mod Whole

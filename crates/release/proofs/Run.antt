@@ -3,9 +3,9 @@
 use Prim.Native.Nat.{ℕ, suc, _+_, _≤_, _<_}
 use native.Mathlib.Numerals.{add-one}
 use native.Mathlib.Omega.{arith}
-use mathlib.Core.List.{List, [], _∷_, _++_, append-assoc, append-nil}
+use mathlib.Core.List.{List, [], _∷_, _++_, map, map-append, append-assoc, append-nil}
 use mathlib.Core.Path.{_≡_, refl, sym, ap, _∙_, subst}
-use lib.ListN.{length, getD, take, length-append, drop-of-length-le}
+use lib.ListN.{length, getD, take, length-append, length-map, drop-of-length-le}
 use lib.Seq.{length-take-le, slice, slice-cons}
 use Rattle.rules.specs.Heap.{tables}
 use Rattle.rules.specs.Release.{Work, decref, decrefs}
@@ -21,7 +21,7 @@ pub record Toward (goal : Work) (first : List ℕ) (v : Work) (listed : List ℕ
   pub count : goal .heap .count ≡ v .heap .count
   pub queue : goal .heap .queue ≡ v .heap .queue
   pub control : goal .heap .control ≡ v .heap .control
-  pub pending : first ++ goal .pending ≡ listed ++ v .pending
+  pub pending : first ++ map suc (goal .pending) ≡ listed ++ map suc (v .pending)
 
 toward-here : (v : Work) (l : List ℕ) → Toward v l v l
 toward-here v l = record { count = refl; queue = refl; control = refl; pending = refl }
@@ -62,7 +62,11 @@ module _ (k f n q t : List ℕ) (r : ℕ) (n′ q′ t′ before : List ℕ) (ta
         count = ap (λ (w : Work). w .heap .count) g;
         queue = ap (λ (w : Work). w .heap .queue) g;
         control = ap (λ (w : Work). w .heap .control) g;
-        pending = ap (λ (w : Work). take tail before ++ w .pending) g ∙ sym (append-assoc (take tail before) (v .pending) (u .pending)) ∙ ap (λ (l : List ℕ). l ++ u .pending) (sym (e .listed));
+        pending =
+            ap (λ (w : Work). take tail before ++ map suc (w .pending)) g
+            ∙ ap (λ (l : List ℕ). take tail before ++ l) (map-append suc (v .pending) (u .pending))
+            ∙ sym (append-assoc (take tail before) (map suc (v .pending)) (map suc (u .pending)))
+            ∙ ap (λ (l : List ℕ). l ++ map suc (u .pending)) (sym (e .listed));
       }
 
   -- the references that are still due
@@ -76,7 +80,7 @@ module _ (k f n q t : List ℕ) (r : ℕ) (n′ q′ t′ before : List ℕ) (ta
       let fr : Frame (working k f n [] q t []) v = decref-frame (working k f n [] q t []) r in
       let b : Balanced (onto [] [] (d .pending) [] [] v) (d .serving) (d .done) (rem ++ d .held) =
       subst (λ (x : Work). Balanced x (d .serving) (d .done) (rem ++ d .held)) g (decref-balanced (working k f n [] q t (d .pending)) (d .serving) (d .done) r (rem ++ d .held) (d .balanced)) in
-      let grown : length (take next after) ≡ length (take tail before) + length (v .pending) = ap length (e .listed) ∙ length-append (take tail before) (v .pending) in
+      let grown : length (take next after) ≡ length (take tail before) + length (map suc (v .pending)) = ap length (e .listed) ∙ length-append (take tail before) (map suc (v .pending)) in
       let there : length (take next after) ≡ next = length-take-le next after (omega (arith, e .bound, d .room)) in
       let here : length (take tail before) ≡ tail = length-take-le tail before (omega (arith, tail-fits _ _ _ _ _ _ _ _ d, d .room)) in
       record {
@@ -85,7 +89,14 @@ module _ (k f n q t : List ℕ) (r : ℕ) (n′ q′ t′ before : List ℕ) (ta
         pending = d .pending ++ v .pending;
         held = d .held;
         room = same ∙ d .room;
-        listed = omega (arith, d .listed, length-append (d .serving) (d .pending), length-append (d .serving) (d .pending ++ v .pending), length-append (d .pending) (v .pending));
+        listed = omega (
+          arith,
+          d .listed,
+          length-append (d .serving) (d .pending),
+          length-append (d .serving) (d .pending ++ v .pending),
+          length-append (d .pending) (v .pending),
+          length-map (v .pending) suc,
+        );
         balanced = subst (λ (x : Work). Balanced x (d .serving) (d .done) (rem ++ d .held))
             (λ i. record {
               heap = tables (fr .kind i) (fr .flags i) (sym (e .count) i) [] [] (sym (e .queue) i) (sym (e .control) i);

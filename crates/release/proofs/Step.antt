@@ -3,12 +3,12 @@
 use Prim.Native.Nat.{ℕ, suc, _+_, _-_, _≤_, _<_}
 use native.Mathlib.Numerals.{add-one}
 use native.Mathlib.Omega.{arith}
-use mathlib.Core.List.{List, [], append-nil}
+use mathlib.Core.List.{List, [], _∷_, _++_, append-nil}
 use mathlib.Core.Bool.{Bool, true, false}
 use mathlib.Core.Path.{_≡_, refl, sym, ap, _∙_, subst⁻¹}
 use borrow.Author.Tests.{eq-eqb, ne-eqb}
 use lib.Dec.{eqb}
-use lib.ListN.{length, getD, set}
+use lib.ListN.{length, getD, take, set}
 use lib.Seq.{set-getD, take-suc-set}
 use Rattle.rules.specs.Heap.{tables, setCount, setQueue, enqueue}
 use Rattle.rules.specs.Release.{Work, decref, lower, refzero, finalizable}
@@ -73,10 +73,20 @@ module _ (k f n q t before : List ℕ) (tail : ℕ) (bound : tail ≤ 1024) wher
           bound = bound;
         })
 
-  -- the cell joins the work list
-  pub lists : (c : ℕ) → finalizable (tables k f n [] [] q t) c ≡ false → tail < length before → length before ≡ 1024
-      → CameOff (refzero (finalizable (tables k f n [] [] q t) c) (working k f n [] q t []) c) (set n c 0) q t before tail (set before tail c) (tail + 1)
-  unfolding refzero setCount
-  lists c plain room small =
-      subst⁻¹ (λ (b : Bool). CameOff (refzero b (working k f n [] q t []) c) (set n c 0) q t before tail (set before tail c) (tail + 1)) plain
-      (record { count = refl; queue = refl; control = refl; listed = rw add-one (take-suc-set before tail c room); bound = omega arith })
+    -- the cell joins the work list: the entry `written` at the list's end is its reference
+    pub lists : (written next : ℕ) → written ≡ r → next ≡ tail + 1 → finalizable (tables k f n [] [] q t) (r - 1) ≡ false → tail < length before → length before ≡ 1024
+        → CameOff (refzero (finalizable (tables k f n [] [] q t) (r - 1)) (working k f n [] q t []) (r - 1)) (set n (r - 1) 0) q t before tail (set before tail written) next
+    unfolding refzero setCount
+    lists written next is behind plain room small =
+        let named : written ≡ suc (r - 1) = omega arith in
+        let end : next ≡ suc tail = omega arith in
+        subst⁻¹ (λ (b : Bool). CameOff (refzero b (working k f n [] q t []) (r - 1)) (set n (r - 1) 0) q t before tail (set before tail written) next) plain
+        (record {
+          count = refl;
+          queue = refl;
+          control = refl;
+          listed =
+              ap (λ (i : ℕ). take i (set before tail written)) end ∙ take-suc-set before tail written room
+              ∙ ap (λ (x : ℕ). take tail before ++ (x ∷ [])) named;
+          bound = omega arith;
+        })

@@ -1,7 +1,7 @@
--- What the steps of a take-off ask for and leave. The work list stands in an array: its entries before `tail` have joined it.
+-- What the steps of a take-off ask for and leave. The work list stands in an array, as references: the cells that its entries before `tail` name have joined it.
 -- Assumes nothing: these are definitions.
-use Prim.Native.Nat.{ℕ, _+_, _*_, _-_, _≤_, _<_}
-use mathlib.Core.List.{List, [], _∷_, _++_}
+use Prim.Native.Nat.{ℕ, suc, _+_, _*_, _-_, _≤_, _<_}
+use mathlib.Core.List.{List, [], _∷_, _++_, map}
 use mathlib.Core.Path.{_≡_}
 use lib.ListN.{length, take, set, getD}
 use Rattle.rules.specs.Heap.{tables}
@@ -29,12 +29,12 @@ pub record LastToComeOff (kind flags count queue control work : List ℕ) (tail 
   pub some : 1 ≤ r
   pub last : getD count (r - 1) 0 ≡ 1
 
--- The tables c q t and the work list's new entries are those of v: the list had `tail` entries of `before`, and has `next` of `after`.
+-- The tables c q t are those of v, and the work list's new entries name the cells that joined it: the list had `tail` entries of `before`, and has `next` of `after`.
 pub record CameOff (v : Work) (c q t before : List ℕ) (tail : ℕ) (after : List ℕ) (next : ℕ) : Type 0 where
   pub count : c ≡ v .heap .count
   pub queue : q ≡ v .heap .queue
   pub control : t ≡ v .heap .control
-  pub listed : take next after ≡ take tail before ++ v .pending
+  pub listed : take next after ≡ take tail before ++ map suc (v .pending)
   pub bound : next ≤ 1024
 
 -- cell c stands in the tables
@@ -49,9 +49,11 @@ pub record CellWiped (k f s : List ℕ) (c : ℕ) (k′ f′ s′ : List ℕ) : 
   pub flags : f′ ≡ set f c 0
   pub slots : s′ ≡ emptied s c
 
--- the work list's entries before `tail` wait, and everything else is in balance
+-- the work list's entries before `tail` name the cells that wait, and everything else is in balance
 pub record Drainable (kind flags count slots queue control work : List ℕ) (tail : ℕ) : Type 0 where
   pub outside : List ℕ
+  pub pending : List ℕ
   pub room : length work ≡ 1024
   pub bound : tail ≤ 1024
-  pub draining : Draining (working kind flags count slots queue control (take tail work)) [] outside
+  pub listed : take tail work ≡ map suc pending
+  pub draining : Draining (working kind flags count slots queue control pending) [] outside

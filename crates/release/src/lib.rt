@@ -1,13 +1,14 @@
 // Reference counting: a count rises, a reference comes off with all that follows from it, and the writes that do both.
-// A take-off keeps a list of the cells whose count fell to zero, in an array of its own and not in the lent tables.
+// A take-off keeps a work list of the cells whose count fell to zero: references to them, in an array of its own and not in the lent tables.
 use numbers::cell::Cell;
+use numbers::cell::CellNumber;
 use numbers::root::Root;
 use numbers::slot::Slot;
 use rules::Answer;
 use rules::DONE;
 ghost use mathlib.Core.Path.{_≡_};
-ghost use mathlib.Core.List.{List, [], _∷_};
-ghost use Prim.Native.Nat.{ℕ, _+_, _*_, _-_, _≤_};
+ghost use mathlib.Core.List.{List, [], _∷_, map};
+ghost use Prim.Native.Nat.{ℕ, suc, _+_, _*_, _-_, _≤_};
 ghost use lib.ListN.{length, take};
 ghost use Rattle.rules.specs.Heap.{tables, slotsOf};
 ghost use Rattle.rules.specs.Release.{start, raise, finalizable, refzero, decref, decrefs, drain, release};
@@ -34,8 +35,7 @@ fn refzero(
         (working (now (kind .entry)) (now (flags .entry)) (now (count .entry)) [] (now (queue .entry)) (now (control .entry)) []) (r - 1))
         (now (count .exit)) (now (queue .exit)) (now (control .exit)) (now (work .entry)) tail (now (work .exit)) t ⌝ }
 {
-    let cell = r - 1;
-    let c = cell as usize;
+    let c = r as usize - 1;
     if flags[c] == 1 {
         if kind[c] == 1 {
             let length = control[0];
@@ -45,7 +45,7 @@ fn refzero(
         }
     }
     count[c] = 0;
-    work[tail] = cell;
+    work[tail] = r;
     tail + 1
 }
 
@@ -67,7 +67,7 @@ fn decref(
     if r == 0 {
         return tail;
     }
-    let c = (r - 1) as usize;
+    let c = r as usize - 1;
     let n = count[c];
     if 1 < n {
         count[c] = n - 1;
@@ -80,7 +80,7 @@ fn decref(
     refzero(kind, flags, count, queue, control, work, tail, r)
 }
 
-// The references in the eight slots of cell c come off, from slot 0 to 7.
+// The references in the eight slots of a cell come off, from slot 0 to 7.
 fn decref_slots(
     kind: &[u16],
     flags: &[u16],
@@ -90,14 +90,14 @@ fn decref_slots(
     control: &mut [u16],
     work: &mut [u16],
     tail: usize,
-    c: usize,
+    cell: Cell,
 ) -> usize
-    requires { ⌜ (8 * c + 8 ≤ length (now slots)) × ToComeOff (now kind) (now flags) (now count) (now queue) (now control) (now work) tail (slotsOf (now slots) c) ⌝ }
-    ensures { λ t. ⌜ CameOff (decrefs (working (now (kind .entry)) (now (flags .entry)) (now (count .entry)) [] (now (queue .entry)) (now (control .entry)) []) (slotsOf (now (slots .entry)) c))
+    requires { ⌜ (8 * cell .0 + 8 ≤ length (now slots)) × ToComeOff (now kind) (now flags) (now count) (now queue) (now control) (now work) tail (slotsOf (now slots) (cell .0)) ⌝ }
+    ensures { λ t. ⌜ CameOff (decrefs (working (now (kind .entry)) (now (flags .entry)) (now (count .entry)) [] (now (queue .entry)) (now (control .entry)) []) (slotsOf (now (slots .entry)) (cell .0)))
         (now (count .exit)) (now (queue .exit)) (now (control .exit)) (now (work .entry)) tail (now (work .exit)) t ⌝ }
 {
     let mut t = tail;
-    let mut i = 8 * c;
+    let mut i = 8 * cell.index();
     let end = i + 8;
     while i < end {
         t = decref(kind, flags, count, queue, control, work, t, slots[i]);
@@ -106,12 +106,12 @@ fn decref_slots(
     t
 }
 
-// The eight slots of cell c become empty.
-fn zero_slots(slots: &mut [u16], c: usize)
-    requires { ⌜ 8 * c + 8 ≤ length (now slots) ⌝ }
-    ensures { λ _. ⌜ now (slots .exit) ≡ emptied (now (slots .entry)) c ⌝ }
+// The eight slots of a cell become empty.
+fn zero_slots(slots: &mut [u16], cell: Cell)
+    requires { ⌜ 8 * cell .0 + 8 ≤ length (now slots) ⌝ }
+    ensures { λ _. ⌜ now (slots .exit) ≡ emptied (now (slots .entry)) (cell .0) ⌝ }
 {
-    let i = 8 * c;
+    let i = 8 * cell.index();
     let mut k = 0;
     while k < 8 {
         slots[i + k] = 0;
@@ -119,14 +119,15 @@ fn zero_slots(slots: &mut [u16], c: usize)
     }
 }
 
-// Cell c becomes all zeros. Its count is 0 already.
-fn wipe(kind: &mut [u16], flags: &mut [u16], slots: &mut [u16], c: usize)
-    requires { ⌜ CellInTables (now kind) (now flags) (now slots) c ⌝ }
-    ensures { λ _. ⌜ CellWiped (now (kind .entry)) (now (flags .entry)) (now (slots .entry)) c (now (kind .exit)) (now (flags .exit)) (now (slots .exit)) ⌝ }
+// A cell becomes all zeros. Its count is 0 already.
+fn wipe(kind: &mut [u16], flags: &mut [u16], slots: &mut [u16], cell: Cell)
+    requires { ⌜ CellInTables (now kind) (now flags) (now slots) (cell .0) ⌝ }
+    ensures { λ _. ⌜ CellWiped (now (kind .entry)) (now (flags .entry)) (now (slots .entry)) (cell .0) (now (kind .exit)) (now (flags .exit)) (now (slots .exit)) ⌝ }
 {
+    let c = cell.index();
     kind[c] = 0;
     flags[c] = 0;
-    zero_slots(slots, c);
+    zero_slots(slots, cell);
 }
 
 // Serves the work list, oldest first, until it is empty. Returns the number of cells freed.
@@ -141,15 +142,19 @@ fn drain(
     tail: usize,
 ) -> u16
     requires { ⌜ Drainable (now kind) (now flags) (now count) (now slots) (now queue) (now control) (now work) tail ⌝ }
-    ensures { λ d. ⌜ WorkDone (drain (length (now (kind .entry))) (working (now (kind .entry)) (now (flags .entry)) (now (count .entry)) (now (slots .entry)) (now (queue .entry)) (now (control .entry)) (take tail (now (work .entry)))))
-        (now (kind .exit)) (now (flags .exit)) (now (count .exit)) (now (slots .exit)) (now (queue .exit)) (now (control .exit)) d ⌝ }
+    ensures { λ d. ⌜ ((cells : List ℕ) → take tail (now (work .entry)) ≡ map suc cells
+        → WorkDone (drain (length (now (kind .entry))) (working (now (kind .entry)) (now (flags .entry)) (now (count .entry)) (now (slots .entry)) (now (queue .entry)) (now (control .entry)) cells))
+        (now (kind .exit)) (now (flags .exit)) (now (count .exit)) (now (slots .exit)) (now (queue .exit)) (now (control .exit)) d) ⌝ }
 {
     let mut t = tail;
     let mut head = 0;
     while head < t {
-        let c = work[head] as usize;
-        t = decref_slots(kind, flags, count, slots, queue, control, work, t, c);
-        wipe(kind, flags, slots, c);
+        // The entry names one of the cells, so that the check always passes.
+        let CellNumber::Is(cell) = Cell::of(work[head] as usize - 1, kind.len()) else {
+            return head as u16;
+        };
+        t = decref_slots(kind, flags, count, slots, queue, control, work, t, cell);
+        wipe(kind, flags, slots, cell);
         head += 1;
     }
     head as u16
@@ -173,7 +178,7 @@ pub fn release(
         return 0;
     }
     // Most references are not the last: they come off before the work list is made.
-    let c = (r - 1) as usize;
+    let c = r as usize - 1;
     let n = count[c];
     if 1 < n {
         count[c] = n - 1;
@@ -192,7 +197,7 @@ pub fn incref(count: &mut [u16], r: u16)
     if r == 0 {
         return;
     }
-    let c = (r - 1) as usize;
+    let c = r as usize - 1;
     count[c] += 1;
 }
 

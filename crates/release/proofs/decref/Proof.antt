@@ -13,9 +13,6 @@ returns c = came-off-none _ _ _ _ _ _ _ (tail-fits _ _ _ _ _ _ _ _ (c .before .b
 sub-c : tie.Need-sub-c
 sub-c c = search needs
 
-cast-c : tie.Need-cast-c
-cast-c c = search needs
-
 mul-n : tie.Need-mul-n
 mul-n c = search needs
 
@@ -87,7 +84,6 @@ decref-spec =
     (tie.spec
     returns
     sub-c
-    cast-c
     mul-n
     slice-read-n
     sub-count

@@ -13,9 +13,6 @@ returns c = rw (c .if1 .taken)
 sub-c : tie.Need-sub-c
 sub-c c = search needs
 
-cast-c : tie.Need-cast-c
-cast-c c = search needs
-
 mul-count : tie.Need-mul-count
 mul-count c = search needs
 
@@ -40,7 +37,6 @@ incref-spec =
     (tie.spec
     returns
     sub-c
-    cast-c
     mul-count
     slice-read-count
     add-count

@@ -7,11 +7,8 @@ use borrow.Author.Needs.{needs}
 use Rattle.release.proofs.refzero.Statement.{statement}
 use Rattle.release.proofs.refzero.Tie as tie
 
-sub-cell : tie.Need-sub-cell
-sub-cell c = search needs
-
-cast-c : tie.Need-cast-c
-cast-c c = search needs
+sub-c : tie.Need-sub-c
+sub-c c = search needs
 
 mul-if1 : tie.Need-mul-if1
 mul-if1 c = search needs
@@ -43,7 +40,8 @@ mul-queue c = search needs
 returns : tie.Need-returns
 returns c =
     let entry = c .before .before .before .before .before in
-    queues _ _ _ _ _ _ _ (tail-fits _ _ _ _ _ _ _ _ (entry .pre .due)) _ (λ z. omega (arith, entry .pre .some)) (entry .pre .last) (c .before .if2 .taken) (c .before .before .before .if1 .taken)
+    queues _ _ _ _ _ _ _ (tail-fits _ _ _ _ _ _ _ _ (entry .pre .due)) _ (λ z. omega (arith, entry .pre .some)) (entry .pre .last)
+    (omega (arith, c .before .if2 .taken)) (omega (arith, c .before .before .before .if1 .taken))
 
 slice-write-queue : tie.Need-slice-write-queue
 slice-write-queue c =
@@ -89,16 +87,16 @@ same-length-4 c = search needs
 
 returns-2 : tie.Need-returns-2
 returns-2 c =
-    lists _ _ _ _ _ _ _ (tail-fits _ _ _ _ _ _ _ _ (c .before .before .pre .due)) _
+    let entry = c .before .before in
+    lists _ _ _ _ _ _ _ (tail-fits _ _ _ _ _ _ _ _ (entry .pre .due)) _ (λ z. omega (arith, entry .pre .some)) _ _ (omega arith) (omega arith)
     (⊎-elim (λ w. plain-kind _ _ _ _ _ _ (w .2 .left)) (λ w. plain-flags _ _ _ _ _ _ (w .left)) (c .if1 .came))
-    (work-free _ _ _ _ _ _ _ _ (named-due _ _ _ _ _ _ _ _ (c .before .before .pre .due) (λ z. omega (arith, c .before .before .pre .some)))) (c .before .before .pre .due .room)
+    (work-free _ _ _ _ _ _ _ _ (named-due _ _ _ _ _ _ _ _ (entry .pre .due) (λ z. omega (arith, entry .pre .some)))) (entry .pre .due .room)
 
 pub refzero-spec : {M : Type 1} → statement M
 refzero-spec =
     tie.close
     (tie.spec
-    sub-cell
-    cast-c
+    sub-c
     mul-if1
     shared-slice-read-if1
     mul-if2

@@ -17,9 +17,6 @@ returns c = at-once _ _ _ _ _ _ _ _ _ _ [] [] 0 (came-off-none _ _ _ _ _ [] 0 (o
 sub-c : tie.Need-sub-c
 sub-c c = search needs
 
-cast-c : tie.Need-cast-c
-cast-c c = search needs
-
 mul-n : tie.Need-mul-n
 mul-n c = search needs
 
@@ -70,7 +67,7 @@ drain-requires c κs =
     c .before .before .before .before .before .before .before .before .before .before .before .before .before .before .before .before .before .before
     .before .before .before .before .before .before .before .before .before .before .before .before in
     let d = c .before .before .before .before .before .before .before .before .before .before .before .before .before .before .decref in
-    drainable _ _ _ _ _ _ _ _ _ _ _ _ _ (d .ensures) (entry .pre) (d .kept .1 .1 .1 .1 .1 .0 ∙ length-replicate {A = ℕ} 1024 0)
+    drainable _ _ _ _ _ _ _ _ _ _ _ _ _ (d .ensures) _ (omega arith) (entry .pre) (d .kept .1 .1 .1 .1 .1 .0 ∙ length-replicate {A = ℕ} 1024 0)
 
 same-length-2 : tie.Need-same-length-2
 same-length-2 c = search needs
@@ -104,7 +101,6 @@ release-spec =
     (tie.spec
     returns
     sub-c
-    cast-c
     mul-n
     slice-read-n
     sub-count

@@ -1,8 +1,19 @@
 -- `release::wipe` meets its contract. Assumes nothing.
-use mathlib.Core.Path.{refl}
+use Prim.Native.Nat.{ℕ}
+use native.Mathlib.Omega.{arith}
+use mathlib.Core.List.{List}
+use mathlib.Core.Path.{_≡_, ap, _∙_}
+use lib.ListN.{set}
 use borrow.Author.Needs.{needs}
 use Rattle.release.proofs.wipe.Statement.{statement}
 use Rattle.release.proofs.wipe.Tie as tie
+
+-- the table with `written` at the index i has 0 at the cell
+zeroed : (l : List ℕ) (i written c : ℕ) → i ≡ c → written ≡ 0 → set l i written ≡ set l c 0
+zeroed l i written c is zero = ap (set l i) zero ∙ ap (λ (j : ℕ). set l j 0) is
+
+index-requires : tie.Need-index-requires
+index-requires c κs = search needs
 
 mul-kind : tie.Need-mul-kind
 mul-kind c = search needs
@@ -29,9 +40,16 @@ same-length-3 : tie.Need-same-length-3
 same-length-3 c = search needs
 
 returns : tie.Need-returns
-returns c = record { kind = refl; flags = refl; slots = c .before .before .zero-slots .ensures }
+returns c =
+    let entry = c .before .before .before .before .before .before .before .before in
+    let is = c .before .before .before .before .index .ensures in
+    record {
+      kind = zeroed (entry .args .kind .now) _ _ _ is (omega arith);
+      flags = zeroed (entry .args .flags .now) _ _ _ is (omega arith);
+      slots = c .before .before .zero-slots .ensures;
+    }
 
 pub wipe-spec : {M : Type 1} → statement M
 wipe-spec =
     tie.close
-    (tie.spec mul-kind slice-write-kind mul-flags slice-write-flags zero-slots-requires same-length same-length-2 same-length-3 returns)
+    (tie.spec index-requires mul-kind slice-write-kind mul-flags slice-write-flags zero-slots-requires same-length same-length-2 same-length-3 returns)
