@@ -1,16 +1,17 @@
 // Marking: cells and slots mark each other, nested at most DEPTH deep; a cell met at that depth is noted, and served by a later scan.
-// Only `unmarked`, `mark_of` and `set_mark` know how marks are kept.
+// Only `unmarked`, `mark_of`, `set_mark`, `to_mark` and `note` know how marks are kept.
 use numbers::cell::Cell;
 use numbers::cell::CellNumber;
 use numbers::slot::Slot;
 use numbers::slot::SlotNumber;
-ghost use Prim.Native.Nat.{_+_, _*_, _≤_, _<_};
+ghost use Prim.Native.Nat.{_+_, _*_, _-_, _≤_, _<_};
 ghost use mathlib.Core.List.{_++_};
 ghost use mathlib.Core.Path.{_≡_};
 ghost use lib.ListN.{length, getD, set, replicate};
 ghost use Rattle.rules.specs.Marking.{markFrom};
-ghost use Rattle.rules.specs.Depth.{toMark, markCell, markSlot, markTable, nextNoted, scanAll};
-ghost use Rattle.laws.specs.Marking.Marks.{Within, Slots, ClosedMarks, FirstNoted};
+ghost use Rattle.rules.specs.Depth.{toMark, markCell, markSlot, markTable, notedBetween, nextNoted, scanAll};
+ghost use Rattle.laws.specs.Marking.Marks.{Within, Slots, ClosedMarks};
+ghost use Rattle.numbers.specs.Numbers.{AsCell};
 
 // How deep cells nest.
 const DEPTH: usize = 16;
@@ -30,19 +31,19 @@ pub fn unmarked() -> [u8; 1024]
 }
 
 // A cell's mark.
-pub fn mark_of(marks: &[u8], c: usize) -> u8
-    requires { ⌜ c < length (now marks) ⌝ }
-    ensures { λ r. ⌜ r ≡ getD (now (marks .entry)) c 0 ⌝ }
+pub fn mark_of(marks: &[u8], cell: Cell) -> u8
+    requires { ⌜ cell .0 < length (now marks) ⌝ }
+    ensures { λ r. ⌜ r ≡ getD (now (marks .entry)) (cell .0) 0 ⌝ }
 {
-    marks[c]
+    marks[cell.index()]
 }
 
 // Gives a cell its mark.
-fn set_mark(marks: &mut [u8], c: usize, mark: u8)
-    requires { ⌜ c < length (now marks) ⌝ }
-    ensures { λ _. ⌜ now (marks .exit) ≡ set (now (marks .entry)) c mark ⌝ }
+fn set_mark(marks: &mut [u8], cell: Cell, mark: u8)
+    requires { ⌜ cell .0 < length (now marks) ⌝ }
+    ensures { λ _. ⌜ now (marks .exit) ≡ set (now (marks .entry)) (cell .0) mark ⌝ }
 {
-    marks[c] = mark;
+    marks[cell.index()] = mark;
 }
 
 // Does a reference name a cell that is not marked? A noted cell is not: met with depth left it is marked at once.
@@ -53,7 +54,15 @@ fn to_mark(marks: &[u8], reference: u16) -> bool
     if reference == 0 {
         return false;
     }
-    mark_of(marks, reference as usize - 1) != MARKED
+    marks[reference as usize - 1] != MARKED
+}
+
+// Notes the cell that a reference names. It takes the reference, which spares a range check for each noted cell.
+fn note(marks: &mut [u8], reference: u16)
+    requires { ⌜ (0 < reference) × (reference ≤ length (now marks)) ⌝ }
+    ensures { λ _. ⌜ now (marks .exit) ≡ set (now (marks .entry)) (reference - 1) 2 ⌝ }
+{
+    marks[reference as usize - 1] = NOTED;
 }
 
 // Marks a cell, and from its slots, `depth` deep.
@@ -62,7 +71,7 @@ fn mark_cell(slots: &[u16], marks: &mut [u8], cell: Cell, depth: usize)
     requires { ⌜ (cell .0 < length (now marks)) × (0 < depth) ⌝ }
     ensures { λ _. ⌜ now (marks .exit) ≡ markCell depth (now (slots .entry)) (now (marks .entry)) (cell .0) ⌝ }
 {
-    set_mark(marks, cell.index(), MARKED);
+    set_mark(marks, cell, MARKED);
     for k in 0..8 {
         let SlotNumber::Is(slot) = Slot::of(k) else {
             return;
@@ -80,45 +89,41 @@ fn mark_slot(slots: &[u16], marks: &mut [u8], cell: Cell, slot: Slot, depth: usi
     let reference = slots[8 * cell.index() + slot.index()];
     if to_mark(marks, reference) {
         if depth == 0 {
-            set_mark(marks, reference as usize - 1, NOTED);
+            note(marks, reference);
             return;
         }
-        let CellNumber::Is(named) = Cell::of(reference as usize - 1, slots.len() / 8) else {
+        let CellNumber::Is(named) = Cell::of(reference as usize - 1, marks.len()) else {
             return;
         };
         mark_cell(slots, marks, named, depth);
     }
 }
 
-// The first noted cell from `lo` up to `hi`, or `hi` where there is none.
-fn noted_between(marks: &[u8], lo: usize, hi: usize) -> usize
-    requires { ⌜ lo ≤ hi ⌝ }
-    requires { ⌜ hi ≤ length (now marks) ⌝ }
-    ensures { λ r. ⌜ FirstNoted (now (marks .entry)) lo hi r ⌝ }
+// The first noted cell from `lo` up to `hi`.
+fn noted_between(marks: &[u8], lo: usize, hi: usize) -> CellNumber
+    requires { ⌜ (lo ≤ hi) × (hi ≤ length (now marks)) ⌝ }
+    ensures { λ r. ⌜ AsCell (notedBetween (now (marks .entry)) lo hi) hi r ⌝ }
 {
     for c in lo..hi {
-        if mark_of(marks, c) == NOTED {
-            return c;
+        let CellNumber::Is(cell) = Cell::of(c, hi) else {
+            return CellNumber::Not;
+        };
+        if mark_of(marks, cell) == NOTED {
+            return CellNumber::Is(cell);
         }
     }
-    hi
+    CellNumber::Not
 }
 
-// The next noted cell of n, from `from` on and round to `from` again, or n where there is none.
-fn next_noted(marks: &[u8], from: usize, n: usize) -> usize
-    requires { ⌜ from ≤ n ⌝ }
-    requires { ⌜ length (now marks) ≡ n ⌝ }
-    ensures { λ r. ⌜ r ≡ nextNoted (now (marks .entry)) from ⌝ }
+// The next noted cell, from `from` on and round to `from` again.
+fn next_noted(marks: &[u8], from: Cell) -> CellNumber
+    requires { ⌜ from .0 < length (now marks) ⌝ }
+    ensures { λ r. ⌜ AsCell (nextNoted (now (marks .entry)) (from .0)) (length (now (marks .entry))) r ⌝ }
 {
-    let after = noted_between(marks, from, n);
-    if after < n {
-        return after;
+    if let CellNumber::Is(cell) = noted_between(marks, from.index(), marks.len()) {
+        return CellNumber::Is(cell);
     }
-    let before = noted_between(marks, 0, from);
-    if before < from {
-        return before;
-    }
-    n
+    noted_between(marks, 0, from.index())
 }
 
 // Serves every noted cell: marks it, and from it, until none is noted.
@@ -126,11 +131,10 @@ fn mark_noted(slots: &[u16], marks: &mut [u8])
     requires { ⌜ Slots (now slots) (length (now marks)) ⌝ }
     ensures { λ _. ⌜ now (marks .exit) ≡ scanAll 16 (now (slots .entry)) (now (marks .entry)) ⌝ }
 {
-    let n = slots.len() / 8;
-    let mut c = next_noted(marks, 0, n);
-    while let CellNumber::Is(cell) = Cell::of(c, n) {
+    let mut next = noted_between(marks, 0, marks.len());
+    while let CellNumber::Is(cell) = next {
         mark_cell(slots, marks, cell, DEPTH);
-        c = next_noted(marks, c, n);
+        next = next_noted(marks, cell);
     }
 }
 
@@ -141,7 +145,7 @@ fn mark_reference(slots: &[u16], marks: &mut [u8], reference: u16)
     ensures { λ _. ⌜ now (marks .exit) ≡ markSlot 16 (now (slots .entry)) (now (marks .entry)) reference ⌝ }
 {
     if to_mark(marks, reference) {
-        let CellNumber::Is(cell) = Cell::of(reference as usize - 1, slots.len() / 8) else {
+        let CellNumber::Is(cell) = Cell::of(reference as usize - 1, marks.len()) else {
             return;
         };
         mark_cell(slots, marks, cell, DEPTH);

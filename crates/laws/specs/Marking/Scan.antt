@@ -35,7 +35,7 @@ from-noted m lo (suc k) = go (eqb (getD m lo 0) 2) refl (firstFrom (λ c. eqb (g
       first = λ d a b. elim (ℕ-discrete d lo) [ yes z ↦ rw z (eqb-false (getD m lo 0) 2 e) | no f ↦ rest .first d (omega (arith, f)) b ];
     }
 
-noted-law : (m : List ℕ) (lo hi : ℕ) → lo ≤ hi → FirstNoted m lo hi (notedBetween m lo hi)
+pub noted-law : (m : List ℕ) (lo hi : ℕ) → lo ≤ hi → FirstNoted m lo hi (notedBetween m lo hi)
 unfolding notedBetween
 noted-law m lo hi h = let e : lo + (hi - lo) ≡ hi = omega arith in rw e at (from-noted m lo (hi - lo))
 
@@ -62,6 +62,17 @@ module _ {m : List ℕ} {from r : ℕ} (a : FirstNoted m from (length m) r) wher
     pub next-none : from ≤ s → length m ≡ nextNoted m from
     unfolding nextNoted firstOf
     next-none l = rw (← first-noted m from (length m) r a, ← first-noted m 0 from s b, le-ltb r (length m) h, le-ltb s from l) refl
+
+-- from cell 0 on one search is enough
+pub next-first : (m : List ℕ) → notedBetween m 0 (length m) ≡ nextNoted m 0
+next-first m =
+    let a = noted-law m 0 (length m) (omega arith) in
+    elim (decLt (notedBetween m 0 (length m)) (length m)) [
+      | yes l ↦ next-after a l
+      | no f ↦
+          let e : notedBetween m 0 (length m) ≡ length m = omega (arith, a .within) in
+          e ∙ next-none a (noted-law m 0 0 (omega arith)) (omega arith) (omega arith)
+    ]
 
 -- none from f on, and none below f
 none-noted : {m : List ℕ} {f r r′ : ℕ} → FirstNoted m f (length m) r → length m ≤ r → FirstNoted m 0 f r′ → f ≤ r′ → NoneNoted m

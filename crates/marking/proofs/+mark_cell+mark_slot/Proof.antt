@@ -1,12 +1,12 @@
--- The proof of the cycle of calls {mark_cell, mark_slot}. `mark_cell` at depth n calls `mark_slot` at n - 1, and that `mark_cell` at the same depth, so the measures are 2n and 2n + 1.
--- The loop of `mark_cell`: the step has been made for the first k slots. Assumes nothing.
+-- The proof of the cycle of calls {mark_cell, mark_slot}. `mark_cell` at depth n calls `mark_slot` at n - 1, and that `mark_cell` at the same depth, so the
+-- measures are 2n and 2n + 1. The loop of `mark_cell`: the step has been made for the first k slots. Assumes nothing.
 use Prim.Native.Nat.{ℕ, _+_, _*_, _-_, _≤_, _<_}
 use mathlib.Core.Path.{_≡_, refl, sym, ap, _∙_}
 use mathlib.Core.List.{List}
 use native.Mathlib.Omega.{arith}
 use borrow.Author.Needs.{needs}
 use lib.Dec.{lit≤}
-use lib.ListN.{length, getD, take, set}
+use lib.ListN.{length, getD, take}
 use Rattle.rules.specs.Heap.{slotsOf}
 use Rattle.rules.specs.Depth.{each, markSlot, markCell}
 use Rattle.laws.specs.Marking.Steps.{each-none, each-slot, each-slots, cell-noted, cell-deep, slot-cell, slot-none, mark-named}
@@ -20,6 +20,7 @@ use Rattle.marking.proofs.mark_slot.Kinds as mark-slot-kinds
 use Rattle.marking.proofs.+mark_cell+mark_slot.Lts-mark_slot as mark-slot-lts
 use Rattle.marking.proofs.set_mark.Reads as set-mark
 use Rattle.marking.proofs.to_mark.Reads as to-mark
+use Rattle.marking.proofs.note.Reads as note
 use Rattle.numbers.proofs.cell.Cell.index.Reads as cell-index
 use Rattle.numbers.proofs.cell.Cell.of.Reads as cell-of
 use Rattle.numbers.proofs.slot.Slot.index.Reads as slot-index
@@ -47,7 +48,7 @@ mark-slot-below t = and 2 mark-slot-kinds.ps (falls 2 mark-slot-kinds.ps _<_ μ-
 
 -- what each of the two is told of the functions that it calls
 abbrev mark-cell-claims : ℕ → mark-cell-lts.Claims
-mark-cell-claims t = (cell-index.Asked, cell-index.Learnt, set-mark.Asked, set-mark.Learnt, slot-of.Asked, slot-of.Learnt, mark-slot-below t, mark-slot.Post)
+mark-cell-claims t = (set-mark.Asked, set-mark.Learnt, slot-of.Asked, slot-of.Learnt, mark-slot-below t, mark-slot.Post)
 
 abbrev mark-slot-claims : ℕ → mark-slot-lts.Claims
 mark-slot-claims t = (
@@ -57,8 +58,8 @@ mark-slot-claims t = (
   slot-index.Learnt,
   to-mark.Asked,
   to-mark.Learnt,
-  set-mark.Asked,
-  set-mark.Learnt,
+  note.Asked,
+  note.Learnt,
   cell-of.Asked,
   cell-of.Learnt,
   mark-cell-below t,
@@ -66,23 +67,22 @@ mark-slot-claims t = (
 )
 
 abbrev mark-cell-Inv-loop : mark-cell-lts.InvT-loop
-mark-cell-Inv-loop slots marks₀ cell depth k₀ marks k = (k ≤ 8) × (length marks ≡ length marks₀) × (marks ≡ each (markSlot (depth - 1) slots) marks₀ (take k (slotsOf slots (cell .0))))
+mark-cell-Inv-loop slots marks₀ cell depth k₀ marks k =
+    (k ≤ 8) × (length marks ≡ length marks₀) × (marks ≡ each (markSlot (depth - 1) slots) marks₀ (take k (slotsOf slots (cell .0))))
 
 abbrev mark-cell-μ-loop : mark-cell-lts.MeasureT-loop
 mark-cell-μ-loop slots marks₀ cell depth k₀ marks k = 8 - k
 
 -- t is the member's own measure
 module _ (t : ℕ) where
-  mark-cell-index-requires : mark-cell-lts.Need-index-requires (mark-cell-claims t) (mark-cell-at t) mark-cell.Post mark-cell-Inv-loop mark-cell-μ-loop
-  mark-cell-index-requires c κs = search needs
-
   mark-cell-set-mark-requires : mark-cell-lts.Need-set-mark-requires (mark-cell-claims t) (mark-cell-at t) mark-cell.Post mark-cell-Inv-loop mark-cell-μ-loop
   mark-cell-set-mark-requires c κs = search needs
 
   mark-cell-loop-holds : mark-cell-lts.Need-loop-holds (mark-cell-claims t) (mark-cell-at t) mark-cell.Post mark-cell-Inv-loop mark-cell-μ-loop
   mark-cell-loop-holds c =
-      let entry = c .before .before .before .before .before .before .before in
-      (lit≤ tt, refl, each-none (markSlot (entry .args .depth - 1) (entry .args .slots .now)) (c .before .before .set-mark .last .0) (slotsOf (entry .args .slots .now) (entry .args .cell .0)))
+      let entry = c .before .before .before .before .before .before in
+      let step : List ℕ → ℕ → List ℕ = markSlot (entry .args .depth - 1) (entry .args .slots .now) in
+      (lit≤ tt, refl, each-none step (c .before .before .set-mark .last .0) (slotsOf (entry .args .slots .now) (entry .args .cell .0)))
 
   mark-cell-of-requires : mark-cell-lts.Need-of-requires (mark-cell-claims t) (mark-cell-at t) mark-cell.Post mark-cell-Inv-loop mark-cell-μ-loop
   mark-cell-of-requires c κs = search needs
@@ -104,7 +104,7 @@ module _ (t : ℕ) where
 
   mark-cell-mark-slot-requires : mark-cell-lts.Need-mark-slot-requires (mark-cell-claims t) (mark-cell-at t) mark-cell.Post mark-cell-Inv-loop mark-cell-μ-loop
   mark-cell-mark-slot-requires c κs =
-      let entry = c .before .before .before .before .before .before .before .before .before .before .before .before .before .before in
+      let entry = c .before .before .before .before .before .before .before .before .before .before .before .before .before in
       let loop = c .before .before .before .before .before .before .loop in
       let same : length (loop .marks) ≡ length (entry .args .marks .now) = loop .inv .1 ∙ c .before .before .before .before .before .before .before .before .before .set-mark .kept .0 in
       let is = rw (c .before .before .slot .given .1) at (c .before .before .before .before .of .ensures) in
@@ -118,23 +118,19 @@ module _ (t : ℕ) where
 
   mark-cell-loop-again : mark-cell-lts.Need-loop-again (mark-cell-claims t) (mark-cell-at t) mark-cell.Post mark-cell-Inv-loop mark-cell-μ-loop
   mark-cell-loop-again c =
-      let a = c .before .before .before .before .before .before .before .before .before .before .before .before .before .before .before .before .before in
-      let l = c .before .before .before .before .before .before .before .before .before .loop in
-      let s = c .before .before .mark-slot in
+      let entry = c .before .before .before .before .before .before .before .before .before .before .before .before .before .before .before .before in
+      let cell = entry .args .cell .0 in
+      let slots = entry .args .slots .now in
+      let loop = c .before .before .before .before .before .before .before .before .before .loop in
+      let set-mark = c .before .before .before .before .before .before .before .before .before .before .before .before .set-mark in
+      let mark-slot = c .before .before .mark-slot in
       let is = rw (c .before .before .before .before .before .slot .given .1) at (c .before .before .before .before .before .before .before .of .ensures) in
-      let step : List ℕ → ℕ → List ℕ = markSlot (a .args .depth - 1) (a .args .slots .now) in (
+      let step : List ℕ → ℕ → List ℕ = markSlot (entry .args .depth - 1) slots in (
         omega arith,
-        s .kept .1 .0 ∙ l .inv .1,
-        s .ensures ∙ ap (λ (j : ℕ). step (l .marks) (getD (a .args .slots .now) (8 * a .args .cell .0 + j) 0)) (is .0)
-            ∙ ap (λ (m : List ℕ). step m (getD (a .args .slots .now) (8 * a .args .cell .0 + l .k) 0)) (l .inv .2)
-            ∙ each-slot
-            (length (a .args .marks .now))
-            (a .args .cell .0)
-            (a .pre .1 .0)
-            (a .pre .1 .1 .0) step
-            (c .before .before .before .before .before .before .before .before .before .before .before .before .set-mark .last .0)
-            (l .k)
-            (omega arith),
+        mark-slot .kept .1 .0 ∙ loop .inv .1,
+        mark-slot .ensures ∙ ap (λ (j : ℕ). step (loop .marks) (getD slots (8 * cell + j) 0)) (is .0)
+            ∙ ap (λ (m : List ℕ). step m (getD slots (8 * cell + loop .k) 0)) (loop .inv .2)
+            ∙ each-slot (length (entry .args .marks .now)) cell (entry .pre .1 .0) (entry .pre .1 .1 .0) step (set-mark .last .0) (loop .k) (omega arith),
       )
 
   mark-cell-same-length-2 : mark-cell-lts.Need-same-length-2 (mark-cell-claims t) (mark-cell-at t) mark-cell.Post mark-cell-Inv-loop mark-cell-μ-loop
@@ -142,15 +138,16 @@ module _ (t : ℕ) where
 
   mark-cell-returns-2 : mark-cell-lts.Need-returns-2 (mark-cell-claims t) (mark-cell-at t) mark-cell.Post mark-cell-Inv-loop mark-cell-μ-loop
   mark-cell-returns-2 c =
-      let a = c .before .before .before .before .before .before .before .before .before in
-      let l = c .before .loop in
-      let s = c .before .before .before .before .set-mark in
-      let step : List ℕ → ℕ → List ℕ = markSlot (a .args .depth - 1) (a .args .slots .now) in
-      l .inv .2 ∙ each-slots (length (a .args .marks .now)) (a .args .cell .0) (a .pre .1 .0) (a .pre .1 .1 .0) step (s .last .0) (l .k) (omega arith)
-      ∙ ap
-      (λ (m : List ℕ). each step m (slotsOf (a .args .slots .now) (a .args .cell .0)))
-      (s .ensures ∙ ap (λ (i : ℕ). set (a .args .marks .now) i 1) (c .before .before .before .before .before .index .ensures))
-      ∙ sym (cell-deep (a .args .slots .now) (a .args .marks .now) (a .args .cell .0) (a .args .depth) (λ e. omega arith))
+      let entry = c .before .before .before .before .before .before .before .before in
+      let cell = entry .args .cell .0 in
+      let slots = entry .args .slots .now in
+      let marks = entry .args .marks .now in
+      let loop = c .before .loop in
+      let set-mark = c .before .before .before .before .set-mark in
+      let step : List ℕ → ℕ → List ℕ = markSlot (entry .args .depth - 1) slots in
+      loop .inv .2 ∙ each-slots (length marks) cell (entry .pre .1 .0) (entry .pre .1 .1 .0) step (set-mark .last .0) (loop .k) (omega arith)
+      ∙ ap (λ (m : List ℕ). each step m (slotsOf slots cell)) (set-mark .ensures)
+      ∙ sym (cell-deep slots marks cell (entry .args .depth) (λ e. omega arith))
 
   mark-slot-index-requires : mark-slot-lts.Need-index-requires (mark-slot-claims t) (mark-slot-at t) mark-slot.Post
   mark-slot-index-requires c κs = search needs
@@ -171,83 +168,53 @@ module _ (t : ℕ) where
   mark-slot-shared-slice-read-reference c = search needs
 
   mark-slot-to-mark-requires : mark-slot-lts.Need-to-mark-requires (mark-slot-claims t) (mark-slot-at t) mark-slot.Post
-  mark-slot-to-mark-requires c κs = omega (
-    arith,
-    c .before .before .before .before .before .before .pre .1 .0 .within (8 * c .before .before .before .index .result + c .before .before .index2 .result),
-  )
+  mark-slot-to-mark-requires c κs =
+      let entry = c .before .before .before .before .before .before in
+      let index = c .before .before .before .index in
+      let at = 8 * index .result + c .before .before .index2 .result in
+      omega (arith, entry .pre .1 .0 .within at)
 
-  mark-slot-cast-set-mark : mark-slot-lts.Need-cast-set-mark (mark-slot-claims t) (mark-slot-at t) mark-slot.Post
-  mark-slot-cast-set-mark c = omega (
-    arith,
-    c .before .before .before .before .before .shared-slice-known2 .given
-        (8 * c .before .before .before .before .before .before .before .index .result + c .before .before .before .before .before .before .index2 .result),
-  )
-
-  mark-slot-sub-set-mark : mark-slot-lts.Need-sub-set-mark (mark-slot-claims t) (mark-slot-at t) mark-slot.Post
-  mark-slot-sub-set-mark c =
-      let entry = c .before .before .before .before .before .before .before .before .before .before in
-      let named =
-      mark-named
-      (entry .args .marks .now)
-      (getD (entry .args .slots .now) (8 * c .before .before .before .before .before .before .before .index .result + c .before .before .before .before .before .before .index2 .result) 0)
-      (sym (c .before .before .before .to-mark .ensures) ∙ c .before .before .if1 .taken) in
-      omega arith
-
-  mark-slot-set-mark-requires : mark-slot-lts.Need-set-mark-requires (mark-slot-claims t) (mark-slot-at t) mark-slot.Post
-  mark-slot-set-mark-requires c κs =
+  mark-slot-note-requires : mark-slot-lts.Need-note-requires (mark-slot-claims t) (mark-slot-at t) mark-slot.Post
+  mark-slot-note-requires c κs =
       let entry = c .before .before .before .before .before .before .before .before .before .before in
       let index = c .before .before .before .before .before .before .before .index in
-      let index2 = c .before .before .before .before .before .before .index2 in
-      let named =
-      mark-named
-      (entry .args .marks .now)
-      (getD (entry .args .slots .now) (8 * index .result + index2 .result) 0)
-      (sym (c .before .before .before .to-mark .ensures) ∙ c .before .before .if1 .taken) in
-      omega (arith, entry .pre .1 .0 .within (8 * index .result + index2 .result))
+      let at = 8 * index .result + c .before .before .before .before .before .before .index2 .result in
+      let to-mark = c .before .before .before .to-mark in
+      let named = mark-named (entry .args .marks .now) (getD (entry .args .slots .now) at 0) (sym (to-mark .ensures) ∙ c .before .before .if1 .taken) in
+      (named .0, omega (arith, entry .pre .1 .0 .within at))
 
   mark-slot-same-length : mark-slot-lts.Need-same-length (mark-slot-claims t) (mark-slot-at t) mark-slot.Post
-  mark-slot-same-length c = c .before .before .set-mark .kept .0
+  mark-slot-same-length c = c .before .before .note .kept .0
 
   mark-slot-returns : mark-slot-lts.Need-returns (mark-slot-claims t) (mark-slot-at t) mark-slot.Post
   mark-slot-returns c =
       let entry = c .before .before .before .before .before .before .before .before .before .before .before .before .before in
+      let slots = entry .args .slots .now in
+      let marks = entry .args .marks .now in
+      let depth = entry .args .depth in
       let index = c .before .before .before .before .before .before .before .before .before .before .index in
-      let index2 = c .before .before .before .before .before .before .before .before .before .index2 in
-      let a = c .before .before .before .before .before .before .before .before .before .before .before .before .before in
-      let at-slot : 8 * index .result + index2 .result ≡ 8 * entry .args .cell .0 + entry .args .slot .0 = omega arith in
-      c .before .before .set-mark .ensures
-      ∙ sym
-      (cell-noted
-      (a .args .slots .now)
-      (a .args .marks .now)
-      (getD (entry .args .slots .now) (8 * index .result + index2 .result) 0 - 1)
-      (a .args .depth)
-      (c .before .before .before .before .if2 .taken))
-      ∙ sym
-      (slot-cell
-      (a .args .slots .now)
-      (a .args .marks .now)
-      (a .args .depth)
-      (getD (entry .args .slots .now) (8 * index .result + index2 .result) 0)
-      (c .before .before .before .before .before .before .to-mark .ensures)
-      (c .before .before .before .before .before .if1 .taken))
-      ∙ ap (λ (i : ℕ). markSlot (a .args .depth) (a .args .slots .now) (a .args .marks .now) (getD (a .args .slots .now) i 0)) at-slot
+      let at = 8 * index .result + c .before .before .before .before .before .before .before .before .before .index2 .result in
+      let reference = getD slots at 0 in
+      let at-slot : at ≡ 8 * entry .args .cell .0 + entry .args .slot .0 = omega arith in
+      let to-mark = c .before .before .before .before .before .before .to-mark in
+      c .before .before .note .ensures
+      ∙ sym (cell-noted slots marks (reference - 1) depth (c .before .before .before .before .if2 .taken))
+      ∙ sym (slot-cell slots marks depth reference (to-mark .ensures) (c .before .before .before .before .before .if1 .taken))
+      ∙ ap (λ (i : ℕ). markSlot depth slots marks (getD slots i 0)) at-slot
 
   mark-slot-cast-of : mark-slot-lts.Need-cast-of (mark-slot-claims t) (mark-slot-at t) mark-slot.Post
-  mark-slot-cast-of c = omega (
-    arith,
-    c .before .before .before .before .shared-slice-known2 .given
-        (8 * c .before .before .before .before .before .before .index .result + c .before .before .before .before .before .index2 .result),
-  )
+  mark-slot-cast-of c =
+      let index = c .before .before .before .before .before .before .index in
+      let at = 8 * index .result + c .before .before .before .before .before .index2 .result in
+      omega (arith, c .before .before .before .before .shared-slice-known2 .given at)
 
   mark-slot-sub-of : mark-slot-lts.Need-sub-of (mark-slot-claims t) (mark-slot-at t) mark-slot.Post
   mark-slot-sub-of c =
       let entry = c .before .before .before .before .before .before .before .before .before in
-      let named =
-      mark-named
-      (entry .args .marks .now)
-      (getD (entry .args .slots .now) (8 * c .before .before .before .before .before .before .index .result + c .before .before .before .before .before .index2 .result) 0)
-      (sym (c .before .before .to-mark .ensures) ∙ c .before .if1 .taken) in
+      let index = c .before .before .before .before .before .before .index in
+      let at = 8 * index .result + c .before .before .before .before .before .index2 .result in
+      let to-mark = c .before .before .to-mark in
+      let named = mark-named (entry .args .marks .now) (getD (entry .args .slots .now) at 0) (sym (to-mark .ensures) ∙ c .before .if1 .taken) in
       omega arith
 
   mark-slot-of-requires : mark-slot-lts.Need-of-requires (mark-slot-claims t) (mark-slot-at t) mark-slot.Post
@@ -266,49 +233,36 @@ module _ (t : ℕ) where
   mark-slot-returns-2 c =
       let entry = c .before .before .before .before .before .before .before .before .before .before .before .before in
       let index = c .before .before .before .before .before .before .before .before .before .index in
-      let index2 = c .before .before .before .before .before .before .before .before .index2 in
-      let named =
-      mark-named
-      (entry .args .marks .now)
-      (getD (entry .args .slots .now) (8 * index .result + index2 .result) 0)
-      (sym (c .before .before .before .before .before .to-mark .ensures) ∙ c .before .before .before .before .if1 .taken) in
-      absurd (omega (arith, rw (c .enum-told .given .1) at (c .before .before .of .ensures), entry .pre .1 .0 .fit, entry .pre .1 .0 .within (8 * index .result + index2 .result)))
+      let at = 8 * index .result + c .before .before .before .before .before .before .before .before .index2 .result in
+      let to-mark = c .before .before .before .before .before .to-mark in
+      let named = mark-named (entry .args .marks .now) (getD (entry .args .slots .now) at 0) (sym (to-mark .ensures) ∙ c .before .before .before .before .if1 .taken) in
+      absurd (omega (arith, rw (c .enum-told .given .1) at (c .before .before .of .ensures), entry .pre .1 .0 .within at))
 
   mark-slot-mark-cell-requires : mark-slot-lts.Need-mark-cell-requires (mark-slot-claims t) (mark-slot-at t) mark-slot.Post
   mark-slot-mark-cell-requires c κs =
       let entry = c .before .before .before .before .before .before .before .before .before .before .before .before .before .before in
-      let named =
-      mark-named
-      (entry .args .marks .now)
-      (getD
-      (entry .args .slots .now)
-      (8 * c .before .before .before .before .before .before .before .before .before .before .before .index .result
-      + c .before .before .before .before .before .before .before .before .before .before .index2 .result) 0)
-      (sym (c .before .before .before .before .before .before .before .to-mark .ensures) ∙ c .before .before .before .before .before .before .if1 .taken) in
       let is = rw (c .before .before .named .given .1) at (c .before .before .before .before .of .ensures) in
-      (omega arith, (entry .pre .1 .0, (omega (arith, entry .pre .1 .0 .fit), omega arith)))
+      (omega arith, (entry .pre .1 .0, (omega arith, omega arith)))
 
   mark-slot-same-length-3 : mark-slot-lts.Need-same-length-3 (mark-slot-claims t) (mark-slot-at t) mark-slot.Post
   mark-slot-same-length-3 c = search needs
 
   mark-slot-returns-3 : mark-slot-lts.Need-returns-3 (mark-slot-claims t) (mark-slot-at t) mark-slot.Post
   mark-slot-returns-3 c =
-      let entry = c .before .before .before .before .before .before .before .before .before .before .before .before .before .before .before .before .before in
+      let entry =
+      c .before .before .before .before .before .before .before .before .before .before .before .before .before .before .before .before .before in
+      let slots = entry .args .slots .now in
+      let marks = entry .args .marks .now in
+      let depth = entry .args .depth in
       let index = c .before .before .before .before .before .before .before .before .before .before .before .before .before .before .index in
-      let index2 = c .before .before .before .before .before .before .before .before .before .before .before .before .before .index2 in
-      let a = c .before .before .before .before .before .before .before .before .before .before .before .before .before .before .before .before .before in
-      let at-slot : 8 * index .result + index2 .result ≡ 8 * entry .args .cell .0 + entry .args .slot .0 = omega arith in
+      let at = 8 * index .result + c .before .before .before .before .before .before .before .before .before .before .before .before .before .index2 .result in
+      let reference = getD slots at 0 in
+      let at-slot : at ≡ 8 * entry .args .cell .0 + entry .args .slot .0 = omega arith in
       let is = rw (c .before .before .before .before .before .named .given .1) at (c .before .before .before .before .before .before .before .of .ensures) in
-      c .before .before .mark-cell .ensures ∙ ap (markCell (a .args .depth) (a .args .slots .now) (a .args .marks .now)) (is .0)
-      ∙ sym
-      (slot-cell
-      (a .args .slots .now)
-      (a .args .marks .now)
-      (a .args .depth)
-      (getD (entry .args .slots .now) (8 * index .result + index2 .result) 0)
-      (c .before .before .before .before .before .before .before .before .before .before .to-mark .ensures)
-      (c .before .before .before .before .before .before .before .before .before .if1 .taken))
-      ∙ ap (λ (i : ℕ). markSlot (a .args .depth) (a .args .slots .now) (a .args .marks .now) (getD (a .args .slots .now) i 0)) at-slot
+      let to-mark = c .before .before .before .before .before .before .before .before .before .before .to-mark in
+      c .before .before .mark-cell .ensures ∙ ap (markCell depth slots marks) (is .0)
+      ∙ sym (slot-cell slots marks depth reference (to-mark .ensures) (c .before .before .before .before .before .before .before .before .before .if1 .taken))
+      ∙ ap (λ (i : ℕ). markSlot depth slots marks (getD slots i 0)) at-slot
 
   mark-slot-same-length-4 : mark-slot-lts.Need-same-length-4 (mark-slot-claims t) (mark-slot-at t) mark-slot.Post
   mark-slot-same-length-4 c = search needs
@@ -316,18 +270,20 @@ module _ (t : ℕ) where
   mark-slot-returns-4 : mark-slot-lts.Need-returns-4 (mark-slot-claims t) (mark-slot-at t) mark-slot.Post
   mark-slot-returns-4 c =
       let entry = c .before .before .before .before .before .before .before .before in
+      let slots = entry .args .slots .now in
+      let marks = entry .args .marks .now in
+      let depth = entry .args .depth in
       let index = c .before .before .before .before .before .index in
-      let index2 = c .before .before .before .before .index2 in
-      let a = c .before .before .before .before .before .before .before .before in
-      let at-slot : 8 * index .result + index2 .result ≡ 8 * entry .args .cell .0 + entry .args .slot .0 = omega arith in
-      sym (slot-none (a .args .slots .now) (a .args .marks .now) (a .args .depth) (getD (entry .args .slots .now) (8 * index .result + index2 .result) 0) (c .before .to-mark .ensures) (c .if1 .left))
-      ∙ ap (λ (i : ℕ). markSlot (a .args .depth) (a .args .slots .now) (a .args .marks .now) (getD (a .args .slots .now) i 0)) at-slot
+      let at = 8 * index .result + c .before .before .before .before .index2 .result in
+      let reference = getD slots at 0 in
+      let at-slot : at ≡ 8 * entry .args .cell .0 + entry .args .slot .0 = omega arith in
+      sym (slot-none slots marks depth reference (c .before .to-mark .ensures) (c .if1 .left))
+      ∙ ap (λ (i : ℕ). markSlot depth slots marks (getD slots i 0)) at-slot
 
 pub +mark-cell+mark-slot-spec : {M : Type 1} → statement M
 +mark-cell+mark-slot-spec =
     close μ-mark-cell μ-mark-slot
     (λ t. mark-cell-lts.spec (mark-cell-claims t) (mark-cell-at t) mark-cell.Post mark-cell-Inv-loop mark-cell-μ-loop
-    (mark-cell-index-requires t)
     (mark-cell-set-mark-requires t)
     (mark-cell-loop-holds t)
     (mark-cell-of-requires t)
@@ -350,9 +306,7 @@ pub +mark-cell+mark-slot-spec : {M : Type 1} → statement M
     (mark-slot-mul-reference-2 t)
     (mark-slot-shared-slice-read-reference t)
     (mark-slot-to-mark-requires t)
-    (mark-slot-cast-set-mark t)
-    (mark-slot-sub-set-mark t)
-    (mark-slot-set-mark-requires t)
+    (mark-slot-note-requires t)
     (mark-slot-same-length t)
     (mark-slot-returns t)
     (mark-slot-cast-of t)

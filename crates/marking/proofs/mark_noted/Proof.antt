@@ -1,83 +1,79 @@
 -- `marking::mark_noted` meets its contract. Each turn marks a noted cell, and no cell loses its mark. Assumes nothing.
-use Prim.Native.Nat.{_-_}
+use Prim.Native.Nat.{ℕ, _-_}
 use native.Mathlib.Omega.{arith}
-use mathlib.Core.Path.{ap, _∙_}
+use mathlib.Core.Path.{refl, ap, _∙_}
 use lib.ListN.{length}
+use Rattle.numbers.specs.Numbers.{AsCell}
 use Rattle.rules.specs.Lists.{occ}
-use Rattle.rules.specs.Depth.{markCell}
-use Rattle.laws.specs.Marking.Scan.{Scanning, scanning-begin, scanning-turn, scanning-less, scanning-done}
+use Rattle.rules.specs.Depth.{markCell, nextNoted, notedBetween}
+use Rattle.laws.specs.Marking.Scan.{Scanning, next-first, scanning-begin, scanning-turn, scanning-less, scanning-done}
 use borrow.Author.Needs.{needs}
 use Rattle.marking.proofs.mark_noted.Statement.{statement}
 use Rattle.marking.proofs.mark_noted.Tie as tie
 
+-- the scan goes on from the cell `next`, or is at its end
 abbrev Inv-loop : tie.InvT-loop
-Inv-loop slots marks₀ n c₀ marks c = Scanning 16 slots marks₀ marks c
+Inv-loop slots marks₀ next₀ marks next = (c : ℕ) × AsCell c (length marks) next × Scanning 16 slots marks₀ marks c
 
 abbrev μ-loop : tie.MeasureT-loop
-μ-loop slots marks₀ n c₀ marks c = length marks - occ 1 marks
+μ-loop slots marks₀ next₀ marks next = length marks - occ 1 marks
 
-next-noted-requires : tie.Need-next-noted-requires Inv-loop μ-loop
-next-noted-requires c κs = (omega arith, omega (arith, c .before .before .before .pre .fit))
+noted-between-requires : tie.Need-noted-between-requires Inv-loop μ-loop
+noted-between-requires c κs = (omega arith, omega arith)
 
 loop-holds : tie.Need-loop-holds Inv-loop μ-loop
-loop-holds c = scanning-begin (c .before .before .before .before .args .marks .now) (c .next-noted .result) (c .next-noted .ensures)
+loop-holds c =
+    let marks = c .before .before .before .before .args .marks .now in
+    (notedBetween marks 0 (length marks), c .noted-between .ensures, scanning-begin marks (notedBetween marks 0 (length marks)) (next-first marks))
 
-of-requires : tie.Need-of-requires Inv-loop μ-loop
-of-requires c κs = search needs
-
-enum-known-cell : tie.Need-enum-known-cell Inv-loop μ-loop
-enum-known-cell c = search needs
+enum-known-next : tie.Need-enum-known-next Inv-loop μ-loop
+enum-known-next c = search needs
 
 mark-cell-requires : tie.Need-mark-cell-requires Inv-loop μ-loop
 mark-cell-requires c κs =
-    let loop = c .before .before .before .before .before .loop in
-    let is = rw (c .before .before .cell .given .1) at (c .before .before .before .before .of .ensures) in (
-      rw (loop .inv .len) (c .before .before .before .before .before .before .before .before .before .before .pre),
-      (omega (arith, c .before .before .before .before .before .before .before .before .before .before .pre .fit, loop .inv .len), omega arith),
-    )
+    let loop = c .before .before .before .before .loop in
+    let is = rw (c .before .before .next .given .1) at (loop .inv .1) in
+    (rw (loop .inv .2 .len) (c .before .before .before .before .before .before .before .before .before .pre), (omega arith, omega arith))
 
-next-noted-requires-2 : tie.Need-next-noted-requires-2 Inv-loop μ-loop
-next-noted-requires-2 c κs =
-    let is = rw (c .before .before .before .before .before .before .cell .given .1) at (c .before .before .before .before .before .before .before .before .of .ensures) in (
-      omega arith,
-      omega (
-        arith,
-        c .before .before .before .before .before .before .before .before .before .before .before .before .before .before .pre .fit,
-        c .before .before .before .mark-cell .kept .1 .0,
-        c .before .before .before .before .before .before .before .before .before .loop .inv .len,
-      ),
-    )
+next-noted-requires : tie.Need-next-noted-requires Inv-loop μ-loop
+next-noted-requires c κs =
+    let is = rw (c .before .before .before .before .before .before .next .given .1) at (c .before .before .before .before .before .before .before .before .loop .inv .1) in
+    omega (arith, c .before .before .before .mark-cell .kept .1 .0)
 
 loop-less : tie.Need-loop-less Inv-loop μ-loop
 loop-less c =
-    let is = rw (c .before .before .before .before .before .before .before .cell .given .1) at (c .before .before .before .before .before .before .before .before .before .of .ensures) in
-    let m = c .before .before .before .before .mark-cell in
-    let l = c .before .before .before .before .before .before .before .before .before .before .loop in
-    let entry = c .before .before .before .before .before .before .before .before .before .before .before .before .before .before .before in
-    scanning-less (omega arith) (l .marks) (m .last .1 .0) (rw (l .inv .len) (entry .pre)) (l .inv) (omega (arith, entry .pre .fit, l .inv .len))
-    (m .ensures ∙ ap (markCell 16 (entry .args .slots .now) (l .marks)) (is .0))
+    let entry = c .before .before .before .before .before .before .before .before .before .before .before .before .before .before in
+    let loop = c .before .before .before .before .before .before .before .before .before .loop in
+    let mark-cell = c .before .before .before .before .mark-cell in
+    let is = rw (c .before .before .before .before .before .before .before .next .given .1) at (loop .inv .1) in
+    scanning-less (omega arith) (loop .marks) (mark-cell .last .1 .0) (rw (loop .inv .2 .len) (entry .pre)) (loop .inv .2) (is .1)
+    (mark-cell .ensures ∙ ap (markCell 16 (entry .args .slots .now) (loop .marks)) (is .0))
 
 loop-again : tie.Need-loop-again Inv-loop μ-loop
 loop-again c =
-    let is = rw (c .before .before .before .before .before .before .before .cell .given .1) at (c .before .before .before .before .before .before .before .before .before .of .ensures) in
-    let m = c .before .before .before .before .mark-cell in
-    let l = c .before .before .before .before .before .before .before .before .before .before .loop in
-    let entry = c .before .before .before .before .before .before .before .before .before .before .before .before .before .before .before in
-    scanning-turn (omega arith) (l .marks) (m .last .1 .0) (rw (l .inv .len) (entry .pre)) (l .inv) (omega (arith, entry .pre .fit, l .inv .len))
-    (m .ensures ∙ ap (markCell 16 (entry .args .slots .now) (l .marks)) (is .0))
-    (c .next-noted2 .result) (c .next-noted2 .ensures)
+    let entry = c .before .before .before .before .before .before .before .before .before .before .before .before .before .before in
+    let loop = c .before .before .before .before .before .before .before .before .before .loop in
+    let mark-cell = c .before .before .before .before .mark-cell in
+    let next = c .next-noted in
+    let is = rw (c .before .before .before .before .before .before .before .next .given .1) at (loop .inv .1) in
+    let after = mark-cell .last .1 .0 in (
+      nextNoted after (loop .inv .0),
+      rw (is .0) at (next .ensures),
+      scanning-turn (omega arith) (loop .marks) after (rw (loop .inv .2 .len) (entry .pre)) (loop .inv .2) (is .1)
+          (mark-cell .ensures ∙ ap (markCell 16 (entry .args .slots .now) (loop .marks)) (is .0))
+          (nextNoted after (loop .inv .0)) refl,
+    )
 
 enum-told : tie.Need-enum-told Inv-loop μ-loop
 enum-told c = search needs
 
 same-length : tie.Need-same-length Inv-loop μ-loop
-same-length c = c .before .before .before .loop .inv .len
+same-length c = c .before .before .loop .inv .2 .len
 
 returns : tie.Need-returns Inv-loop μ-loop
 returns c =
-    let loop = c .before .before .before .loop in
-    let not = rw (c .enum-told .given .1) at (c .before .before .of .ensures) in
-    scanning-done (loop .marks) (loop .c) (loop .inv) (omega (arith, loop .inv .len, c .before .before .before .before .before .before .before .before .pre .fit))
+    let loop = c .before .before .loop in
+    scanning-done (loop .marks) (loop .inv .0) (loop .inv .2) (rw (c .enum-told .given .1) at (loop .inv .1))
 
 pub mark-noted-spec : {M : Type 1} → statement M
 mark-noted-spec =
@@ -85,12 +81,11 @@ mark-noted-spec =
     (tie.spec
     Inv-loop
     μ-loop
-    next-noted-requires
+    noted-between-requires
     loop-holds
-    of-requires
-    enum-known-cell
+    enum-known-next
     mark-cell-requires
-    next-noted-requires-2
+    next-noted-requires
     loop-less
     loop-again
     enum-told

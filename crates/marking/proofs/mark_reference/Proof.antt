@@ -32,18 +32,13 @@ returns : tie.Need-returns
 returns c =
     let entry = c .before .before .before .before .before .before .before .before in
     let named = mark-named (entry .args .marks .now) (entry .args .reference) (sym (c .before .before .before .before .to-mark .ensures) ∙ c .before .before .before .if1 .taken) in
-    absurd (omega (arith, rw (c .enum-told .given .1) at (c .before .before .of .ensures), entry .pre .0 .fit))
+    absurd (omega (arith, rw (c .enum-told .given .1) at (c .before .before .of .ensures)))
 
 mark-cell-requires : tie.Need-mark-cell-requires
 mark-cell-requires c κs =
     let entry = c .before .before .before .before .before .before .before .before .before .before in
-    let named =
-    mark-named
-    (entry .args .marks .now)
-    (entry .args .reference)
-    (sym (c .before .before .before .before .before .before .to-mark .ensures) ∙ c .before .before .before .before .before .if1 .taken) in
     let is = rw (c .before .before .cell .given .1) at (c .before .before .before .before .of .ensures) in
-    (entry .pre .0, (omega (arith, entry .pre .0 .fit), omega arith))
+    (entry .pre .0, (omega arith, omega arith))
 
 same-length-2 : tie.Need-same-length-2
 same-length-2 c = search needs
@@ -51,15 +46,12 @@ same-length-2 c = search needs
 returns-2 : tie.Need-returns-2
 returns-2 c =
     let entry = c .before .before .before .before .before .before .before .before .before .before .before .before .before in
+    let slots = entry .args .slots .now in
+    let marks = entry .args .marks .now in
+    let to-mark = c .before .before .before .before .before .before .before .before .before .to-mark in
     let is = rw (c .before .before .before .before .before .cell .given .1) at (c .before .before .before .before .before .before .before .of .ensures) in
-    c .before .before .mark-cell .ensures ∙ ap (markCell 16 (entry .args .slots .now) (entry .args .marks .now)) (is .0)
-    ∙ sym
-    (slot-cell
-    (entry .args .slots .now)
-    (entry .args .marks .now) 16
-    (entry .args .reference)
-    (c .before .before .before .before .before .before .before .before .before .to-mark .ensures)
-    (c .before .before .before .before .before .before .before .before .if1 .taken))
+    c .before .before .mark-cell .ensures ∙ ap (markCell 16 slots marks) (is .0)
+    ∙ sym (slot-cell slots marks 16 (entry .args .reference) (to-mark .ensures) (c .before .before .before .before .before .before .before .before .if1 .taken))
 
 same-length-3 : tie.Need-same-length-3
 same-length-3 c = search needs

@@ -1,0 +1,24 @@
+-- `marking::set_mark` meets its contract. Assumes nothing.
+use Prim.Native.Nat.{ℕ}
+use mathlib.Core.Path.{ap}
+use lib.ListN.{set}
+use borrow.Author.Needs.{needs}
+use Rattle.marking.proofs.set_mark.Statement.{statement}
+use Rattle.marking.proofs.set_mark.Tie as tie
+
+index-requires : tie.Need-index-requires
+index-requires c κs = search needs
+
+slice-write-marks : tie.Need-slice-write-marks
+slice-write-marks c = search needs
+
+same-length : tie.Need-same-length
+same-length c = search needs
+
+returns : tie.Need-returns
+returns c =
+    let entry = c .before .before in
+    ap (λ (i : ℕ). set (entry .args .marks .now) i (entry .args .mark)) (c .index .ensures)
+
+pub set-mark-spec : {M : Type 1} → statement M
+set-mark-spec = tie.close (tie.spec index-requires slice-write-marks same-length returns)
