@@ -1,20 +1,22 @@
 // Unmarked objects with a finalizer to run join the queue.
 use crate::cells::is_due;
+use numbers::cell::Cell;
+use numbers::cell::CellNumber;
 ghost use Prim.Native.Nat.{_+_, _<_};
 ghost use mathlib.Core.Path.{_≡_};
 ghost use lib.ListN.{length, getD, set};
 ghost use Rattle.sweep.specs.Phases.{isDue, dueOf, only, QueueRoom, Queued};
 
 // A cell joins the end of the queue.
-fn enqueue(queue: &mut [u16], control: &mut [u16], c: usize)
-    requires { ⌜ c < 65535 ⌝ }
+fn enqueue(queue: &mut [u16], control: &mut [u16], cell: Cell)
+    requires { ⌜ cell .0 < 65535 ⌝ }
     requires { ⌜ length (now control) ≡ 2 ⌝ }
     requires { ⌜ (getD (now control) 0 0 < length (now queue)) × (getD (now control) 0 0 < 65535) ⌝ }
-    ensures { λ _. ⌜ now (queue .exit) ≡ set (now (queue .entry)) (getD (now (control .entry)) 0 0) (c + 1) ⌝ }
+    ensures { λ _. ⌜ now (queue .exit) ≡ set (now (queue .entry)) (getD (now (control .entry)) 0 0) (cell .0 + 1) ⌝ }
     ensures { λ _. ⌜ now (control .exit) ≡ set (now (control .entry)) 0 (getD (now (control .entry)) 0 0 + 1) ⌝ }
 {
     let end = control[0];
-    queue[end as usize] = c as u16 + 1;
+    queue[end as usize] = cell.reference();
     control[0] = end + 1;
 }
 
@@ -26,17 +28,18 @@ fn queue_cell(
     queue: &mut [u16],
     control: &mut [u16],
     marks: &[u8],
-    c: usize,
+    cell: Cell,
 ) -> u16
-    requires { ⌜ c < length (now kind) ⌝ }
-    requires { ⌜ QueueRoom (now kind) (now flags) (now count) (now queue) (now control) (now marks) (only (isDue (now kind) (now flags) (now marks) c) c) ⌝ }
+    requires { ⌜ cell .0 < length (now kind) ⌝ }
+    requires { ⌜ QueueRoom (now kind) (now flags) (now count) (now queue) (now control) (now marks) (only (isDue (now kind) (now flags) (now marks) (cell .0)) (cell .0)) ⌝ }
     ensures { λ r. ⌜ Queued (now (kind .entry)) (now (flags .entry)) (now (count .entry)) (now (queue .entry)) (now (control .entry))
-        (only (isDue (now (kind .entry)) (now (flags .entry)) (now (marks .entry)) c) c) (now (count .exit)) (now (queue .exit)) (now (control .exit)) r ⌝ }
+        (only (isDue (now (kind .entry)) (now (flags .entry)) (now (marks .entry)) (cell .0)) (cell .0)) (now (count .exit)) (now (queue .exit)) (now (control .exit)) r ⌝ }
 {
-    if !is_due(kind, flags, marks, c) {
+    if !is_due(kind, flags, marks, cell) {
         return 0;
     }
-    enqueue(queue, control, c);
+    enqueue(queue, control, cell);
+    let c = cell.index();
     count[c] = count[c] + 1;
     1
 }
@@ -56,7 +59,10 @@ pub fn queue_unmarked(
 {
     let mut queued = 0;
     for c in 0..kind.len() {
-        queued += queue_cell(kind, flags, count, queue, control, marks, c);
+        let CellNumber::Is(cell) = Cell::of(c, kind.len()) else {
+            return queued;
+        };
+        queued += queue_cell(kind, flags, count, queue, control, marks, cell);
     }
     queued
 }

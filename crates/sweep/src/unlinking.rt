@@ -1,5 +1,7 @@
 // The first round: references of unmarked cells come off their targets' counts.
 use crate::cells::is_garbage;
+use numbers::cell::Cell;
+use numbers::cell::CellNumber;
 ghost use Prim.Native.Nat.{_≤_, _<_};
 ghost use mathlib.Core.List.{[], _∷_};
 ghost use mathlib.Core.Path.{_≡_};
@@ -24,27 +26,27 @@ fn lower(count: &mut [u16], reference: u16)
 }
 
 // The eight slots of a cell come off their targets' counts.
-fn lower_targets(count: &mut [u16], slots: &[u16], c: usize)
+fn lower_targets(count: &mut [u16], slots: &[u16], cell: Cell)
     requires { ⌜ Slots (now slots) (length (now count)) ⌝ }
-    requires { ⌜ c < length (now count) ⌝ }
-    ensures { λ _. ⌜ TakenOff (now (count .entry)) (slotsOf (now (slots .entry)) c) (now (count .exit)) ⌝ }
+    requires { ⌜ cell .0 < length (now count) ⌝ }
+    ensures { λ _. ⌜ TakenOff (now (count .entry)) (slotsOf (now (slots .entry)) (cell .0)) (now (count .exit)) ⌝ }
 {
     for k in 0..8 {
-        lower(count, slots[8 * c + k]);
+        lower(count, slots[8 * cell.index() + k]);
     }
 }
 
 // The slots of a cell come off, if it is garbage.
-fn unlink_cell(kind: &[u16], count: &mut [u16], slots: &[u16], marks: &[u8], c: usize)
+fn unlink_cell(kind: &[u16], count: &mut [u16], slots: &[u16], marks: &[u8], cell: Cell)
     requires { ⌜ (length (now kind) ≡ length (now count)) × (length (now marks) ≡ length (now count)) ⌝ }
     requires { ⌜ Slots (now slots) (length (now count)) ⌝ }
-    requires { ⌜ c < length (now count) ⌝ }
-    ensures { λ _. ⌜ Unlinked (now (slots .entry)) (now (count .entry)) (only (isGarbage (now (kind .entry)) (now (marks .entry)) c) c) (now (count .exit)) ⌝ }
+    requires { ⌜ cell .0 < length (now count) ⌝ }
+    ensures { λ _. ⌜ Unlinked (now (slots .entry)) (now (count .entry)) (only (isGarbage (now (kind .entry)) (now (marks .entry)) (cell .0)) (cell .0)) (now (count .exit)) ⌝ }
 {
-    if !is_garbage(kind, marks, c) {
+    if !is_garbage(kind, marks, cell) {
         return;
     }
-    lower_targets(count, slots, c);
+    lower_targets(count, slots, cell);
 }
 
 // The slots of all garbage come off.
@@ -54,6 +56,9 @@ pub fn unlink_unmarked(kind: &[u16], count: &mut [u16], slots: &[u16], marks: &[
     ensures { λ _. ⌜ Unlinked (now (slots .entry)) (now (count .entry)) (garbageOf (now (kind .entry)) (now (marks .entry))) (now (count .exit)) ⌝ }
 {
     for c in 0..kind.len() {
-        unlink_cell(kind, count, slots, marks, c);
+        let CellNumber::Is(cell) = Cell::of(c, kind.len()) else {
+            return;
+        };
+        unlink_cell(kind, count, slots, marks, cell);
     }
 }

@@ -1,8 +1,8 @@
 -- `sweep::queueing::queue_cell` meets its contract. Assumes nothing.
-use Prim.Native.Nat.{_+_}
+use Prim.Native.Nat.{ℕ, _+_}
 use native.Mathlib.Omega.{arith}
-use mathlib.Core.Path.{refl, sym, _∙_}
-use lib.ListN.{getD, length-set}
+use mathlib.Core.Path.{ap, sym, _∙_}
+use lib.ListN.{getD, set, length-set}
 use borrow.Author.Tests.{not-true, not-false}
 use Rattle.sweep.proofs.Joins.{queued-none, queued-one, room-one}
 use borrow.Author.Needs.{needs}
@@ -15,60 +15,70 @@ is-due-requires c κs =
     (entry .pre .0, (omega (arith, entry .pre .1 .fit .flags-size), omega (arith, entry .pre .1 .marks-size)))
 
 returns : tie.Need-returns
-returns c = queued-none (c .before .before .before .before .before .before .before .before .args .c) (sym (c .before .is-due .ensures) ∙ not-true _ (c .if1 .taken))
+returns c =
+    let entry = c .before .before .before .before .before .before .before .before in
+    queued-none (entry .args .cell .0) (sym (c .before .is-due .ensures) ∙ not-true _ (c .if1 .taken))
 
 enqueue-requires : tie.Need-enqueue-requires
 enqueue-requires c κs =
     let entry = c .before .before .before .before .before .before .before .before .before .before in
-    let room = room-one (entry .args .c) (sym (c .before .before .before .is-due .ensures) ∙ not-false _ (c .before .before .if1 .left)) (entry .pre .1) in
-    (omega (arith, entry .pre .1 .fit .small), (omega (arith, entry .pre .1 .fit .control-size), (omega (arith, entry .pre .1 .fit .queue-size), omega (arith, entry .pre .1 .fit .small))))
+    let fit = entry .pre .1 .fit in
+    let room = room-one (entry .args .cell .0) (sym (c .before .before .before .is-due .ensures) ∙ not-false _ (c .before .before .if1 .left)) (entry .pre .1) in
+    (omega (arith, fit .small), (omega (arith, fit .control-size), (omega (arith, fit .queue-size), omega (arith, fit .small))))
+
+index-requires : tie.Need-index-requires
+index-requires c κs = search needs
 
 mul-count : tie.Need-mul-count
 mul-count c = search needs
 
 slice-read-count : tie.Need-slice-read-count
 slice-read-count c =
-    let entry = c .before .before .before .before .before .before .before .before .before .before .before .before .before .before .before .before in
+    let entry =
+    c .before .before .before .before .before .before .before .before .before .before .before .before .before .before .before .before .before in
     omega (arith, entry .pre .1 .fit .count-size)
 
 add-count : tie.Need-add-count
 add-count c =
-    let entry = c .before .before .before .before .before .before .before .before .before .before .before .before .before .before .before .before in
-    let room =
-    room-one
-    (entry .args .c)
-    (sym (c .before .before .before .before .before .before .before .before .before .is-due .ensures)
-    ∙ not-false _ (c .before .before .before .before .before .before .before .before .if1 .left))
-    (entry .pre .1) in
-    omega arith
+    let entry =
+    c .before .before .before .before .before .before .before .before .before .before .before .before .before .before .before .before .before in
+    let is-due = c .before .before .before .before .before .before .before .before .before .before .is-due in
+    let room = room-one (entry .args .cell .0) (sym (is-due .ensures) ∙ not-false _ (c .before .before .before .before .before .before .before .before .before .if1 .left)) (entry .pre .1) in
+    omega (arith, ap (λ (i : ℕ). getD (entry .args .count .now) i 0) (c .before .index .ensures))
 
 mul-count-2 : tie.Need-mul-count-2
 mul-count-2 c = search needs
 
 slice-write-count : tie.Need-slice-write-count
 slice-write-count c =
-    let entry = c .before .before .before .before .before .before .before .before .before .before .before .before .before .before .before .before in
+    let entry =
+    c .before .before .before .before .before .before .before .before .before .before .before .before .before .before .before .before .before in
     omega (arith, entry .pre .1 .fit .count-size)
 
 same-length : tie.Need-same-length
 same-length c =
-    let entry = c .before .before .before .before .before .before .before .before .before .before .before .before .before .before .before .before in
-    length-set (entry .args .count .now) (entry .args .c) (getD (entry .args .count .now) (entry .args .c) 0 + 1)
+    let entry =
+    c .before .before .before .before .before .before .before .before .before .before .before .before .before .before .before .before .before in
+    let index = c .before .index in
+    length-set (entry .args .count .now) (index .result) (getD (entry .args .count .now) (index .result) 0 + 1)
 
 same-length-2 : tie.Need-same-length-2
-same-length-2 c = c .before .before .before .before .before .enqueue .kept .0
+same-length-2 c = c .before .before .before .before .before .before .enqueue .kept .0
 
 same-length-3 : tie.Need-same-length-3
-same-length-3 c = c .before .before .before .before .before .enqueue .kept .1 .0
+same-length-3 c = c .before .before .before .before .before .before .enqueue .kept .1 .0
 
 returns-2 : tie.Need-returns-2
 returns-2 c =
-    let entry = c .before .before .before .before .before .before .before .before .before .before .before .before .before .before .before .before in
-    let enqueue = c .before .before .before .before .before .enqueue in
+    let entry =
+    c .before .before .before .before .before .before .before .before .before .before .before .before .before .before .before .before .before in
+    let is-due = c .before .before .before .before .before .before .before .before .before .before .is-due in
+    let enqueue = c .before .before .before .before .before .before .enqueue in
+    let one-more = ap (λ (i : ℕ). set (entry .args .count .now) i (getD (entry .args .count .now) i 0 + 1)) (c .before .index .ensures) in
     queued-one
-    (entry .args .c)
-    (sym (c .before .before .before .before .before .before .before .before .before .is-due .ensures)
-    ∙ not-false _ (c .before .before .before .before .before .before .before .before .if1 .left)) refl
+    (entry .args .cell .0)
+    (sym (is-due .ensures) ∙ not-false _ (c .before .before .before .before .before .before .before .before .before .if1 .left))
+    one-more
     (enqueue .ensures .0)
     (enqueue .ensures .1)
 
@@ -79,6 +89,7 @@ queue-cell-spec =
     is-due-requires
     returns
     enqueue-requires
+    index-requires
     mul-count
     slice-read-count
     add-count

@@ -12,13 +12,18 @@ use Rattle.sweep.proofs.unlinking.lower_targets.Statement.{statement}
 use Rattle.sweep.proofs.unlinking.lower_targets.Tie as tie
 
 abbrev Inv-loop : tie.InvT-loop
-Inv-loop count₀ slots c k₀ count k = (k ≤ 8) × (length count ≡ length count₀) × TakenOff count₀ (take k (slotsOf slots c)) count
+Inv-loop count₀ slots cell k₀ count k = (k ≤ 8) × (length count ≡ length count₀) × TakenOff count₀ (take k (slotsOf slots (cell .0))) count
 
 abbrev μ-loop : tie.MeasureT-loop
-μ-loop count₀ slots c k₀ count k = 8 - k
+μ-loop count₀ slots cell k₀ count k = 8 - k
 
 loop-holds : tie.Need-loop-holds Inv-loop μ-loop
-loop-holds c = (lit≤ tt, refl, taken-off-start (slotsOf (c .before .before .args .slots .now) (c .before .before .args .c)))
+loop-holds c =
+    let entry = c .before .before in
+    (lit≤ tt, refl, taken-off-start (slotsOf (entry .args .slots .now) (entry .args .cell .0)))
+
+index-requires : tie.Need-index-requires Inv-loop μ-loop
+index-requires c κs = search needs
 
 mul-lower : tie.Need-mul-lower Inv-loop μ-loop
 mul-lower c = search needs
@@ -30,13 +35,13 @@ mul-lower-2 : tie.Need-mul-lower-2 Inv-loop μ-loop
 mul-lower-2 c = search needs
 
 shared-slice-read-lower : tie.Need-shared-slice-read-lower Inv-loop μ-loop
-shared-slice-read-lower c = omega (arith, c .before .before .before .before .before .before .pre .0 .fit)
+shared-slice-read-lower c = omega (arith, c .before .before .before .before .before .before .before .pre .0 .fit)
 
 lower-requires : tie.Need-lower-requires Inv-loop μ-loop
 lower-requires c κs =
-    let entry = c .before .before .before .before .before .before in
-    let loop = c .before .before .before .loop in
-    omega (arith, entry .pre .0 .within (8 * entry .args .c + loop .k), loop .inv .1)
+    let entry = c .before .before .before .before .before .before .before in
+    let loop = c .before .before .before .before .loop in
+    omega (arith, entry .pre .0 .within (8 * c .before .index .result + loop .k), loop .inv .1)
 
 add-k : tie.Need-add-k Inv-loop μ-loop
 add-k c = search needs
@@ -46,12 +51,14 @@ loop-less c = search needs
 
 loop-again : tie.Need-loop-again Inv-loop μ-loop
 loop-again c =
-    let entry = c .before .before .before .before .before .before .before .before .before in
-    let l = c .before .before .before .before .before .before .loop in
-    let s = c .before .before .lower in (
+    let entry = c .before .before .before .before .before .before .before .before .before .before in
+    let cells = length (entry .args .count .now) in
+    let loop = c .before .before .before .before .before .before .before .loop in
+    let lower = c .before .before .lower in
+    let off = rw (c .before .before .before .before .index .ensures) at (lower .ensures) in (
       omega arith,
-      s .kept .0 ∙ l .inv .1,
-      taken-off-next (entry .args .slots .now) (entry .args .c) (length (entry .args .count .now)) (entry .pre .0 .fit) (entry .pre .1) (l .k) (omega arith) (l .inv .2) (s .ensures),
+      lower .kept .0 ∙ loop .inv .1,
+      taken-off-next (entry .args .slots .now) (entry .args .cell .0) cells (entry .pre .0 .fit) (entry .pre .1) (loop .k) (omega arith) (loop .inv .2) off,
     )
 
 same-length : tie.Need-same-length Inv-loop μ-loop
@@ -60,7 +67,9 @@ same-length c = c .before .loop .inv .1
 returns : tie.Need-returns Inv-loop μ-loop
 returns c =
     let entry = c .before .before .before .before in
-    taken-off-all (entry .args .slots .now) (entry .args .c) (length (entry .args .count .now)) (entry .pre .0 .fit) (entry .pre .1) (c .before .loop .k) (omega arith) (c .before .loop .inv .2)
+    let cells = length (entry .args .count .now) in
+    let loop = c .before .loop in
+    taken-off-all (entry .args .slots .now) (entry .args .cell .0) cells (entry .pre .0 .fit) (entry .pre .1) (loop .k) (omega arith) (loop .inv .2)
 
 pub lower-targets-spec : {M : Type 1} → statement M
 lower-targets-spec =
@@ -69,6 +78,7 @@ lower-targets-spec =
     Inv-loop
     μ-loop
     loop-holds
+    index-requires
     mul-lower
     add-lower
     mul-lower-2

@@ -11,7 +11,9 @@ is-garbage-requires : tie.Need-is-garbage-requires
 is-garbage-requires c κs = (omega arith, omega arith)
 
 returns : tie.Need-returns
-returns c = unlinked-none (c .before .before .before .before .before .before .args .c) (sym (c .before .is-garbage .ensures) ∙ not-true _ (c .if1 .taken))
+returns c =
+    let entry = c .before .before .before .before .before .before in
+    unlinked-none (entry .args .cell .0) (sym (c .before .is-garbage .ensures) ∙ not-true _ (c .if1 .taken))
 
 lower-targets-requires : tie.Need-lower-targets-requires
 lower-targets-requires c κs = search needs
@@ -21,11 +23,11 @@ same-length c = search needs
 
 returns-2 : tie.Need-returns-2
 returns-2 c =
-    unlinked-one
-    (c .before .before .before .before .before .before .before .before .before .before .args .c)
-    (sym (c .before .before .before .before .before .is-garbage .ensures) ∙ not-false _ (c .before .before .before .before .if1 .left))
-    (c .before .before .lower-targets .ensures)
+    let entry = c .before .before .before .before .before .before .before .before .before .before in
+    let is-garbage = c .before .before .before .before .before .is-garbage in
+    unlinked-one (entry .args .cell .0) (sym (is-garbage .ensures) ∙ not-false _ (c .before .before .before .before .if1 .left)) (c .before .before .lower-targets .ensures)
 
 pub unlink-cell-spec : {M : Type 1} → statement M
 unlink-cell-spec =
-    tie.close (tie.spec is-garbage-requires returns lower-targets-requires same-length returns-2)
+    tie.close
+    (tie.spec is-garbage-requires returns lower-targets-requires same-length returns-2)

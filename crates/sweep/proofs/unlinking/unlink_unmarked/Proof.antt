@@ -6,6 +6,7 @@ use lib.ListN.{length}
 use Rattle.rules.specs.Lists.{select}
 use Rattle.sweep.specs.Phases.{isGarbage, Unlinked}
 use Rattle.sweep.proofs.Lowers.{unlinked-start, unlinked-next}
+use borrow.Author.Needs.{needs}
 use Rattle.sweep.proofs.unlinking.unlink_unmarked.Statement.{statement}
 use Rattle.sweep.proofs.unlinking.unlink_unmarked.Tie as tie
 
@@ -20,8 +21,30 @@ loop-holds c =
     let entry = c .before .before .before .before in
     (omega arith, refl, unlinked-start (isGarbage (entry .args .kind .now) (entry .args .marks .now)))
 
+of-requires : tie.Need-of-requires Inv-loop μ-loop
+of-requires c κs = search needs
+
+enum-known-cell : tie.Need-enum-known-cell Inv-loop μ-loop
+enum-known-cell c = search needs
+
+enum-told : tie.Need-enum-told Inv-loop μ-loop
+enum-told c = search needs
+
+same-length : tie.Need-same-length Inv-loop μ-loop
+same-length c = absurd (omega (arith, rw (c .enum-told .given .1) at (c .before .before .of .ensures)))
+
+returns : tie.Need-returns Inv-loop μ-loop
+returns c = absurd (omega (arith, rw (c .enum-told .given .1) at (c .before .before .of .ensures)))
+
 unlink-cell-requires : tie.Need-unlink-cell-requires Inv-loop μ-loop
-unlink-cell-requires c κs = ((omega arith, omega arith), (rw (c .before .before .loop .inv .1) (c .before .before .before .before .before .before .before .pre .1), omega arith))
+unlink-cell-requires c κs =
+    let entry = c .before .before .before .before .before .before .before .before .before .before .before in
+    let loop = c .before .before .before .before .before .before .loop in
+    let of = c .before .before .before .before .of in
+    let cell = c .before .before .cell .given in
+    let is = rw (cell .1) at (of .ensures) in
+    let here : cell .0 .0 .0 ≡ loop .c = omega arith in
+    ((omega arith, omega arith), (rw (loop .inv .1) (entry .pre .1), omega arith))
 
 add-c : tie.Need-add-c Inv-loop μ-loop
 add-c c = omega arith
@@ -31,18 +54,26 @@ loop-less c = omega arith
 
 loop-again : tie.Need-loop-again Inv-loop μ-loop
 loop-again c =
-    let entry = c .before .before .before .before .before .before .before .before .before .before in
-    let l = c .before .before .before .before .before .loop in
-    let s = c .before .before .unlink-cell in
-    (omega arith, s .kept .1 .0 ∙ l .inv .1, unlinked-next (isGarbage (entry .args .kind .now) (entry .args .marks .now)) (l .c) (l .inv .2) (s .ensures))
+    let entry = c .before .before .before .before .before .before .before .before .before .before .before .before .before .before in
+    let loop = c .before .before .before .before .before .before .before .before .before .loop in
+    let unlink-cell = c .before .before .unlink-cell in
+    let of = c .before .before .before .before .before .before .before .of in
+    let cell = c .before .before .before .before .before .cell .given in
+    let is = rw (cell .1) at (of .ensures) in
+    let here : cell .0 .0 .0 ≡ loop .c = omega arith in (
+      omega arith,
+      unlink-cell .kept .1 .0 ∙ loop .inv .1,
+      unlinked-next (isGarbage (entry .args .kind .now) (entry .args .marks .now)) (loop .c) (loop .inv .2) (rw here at (unlink-cell .ensures)),
+    )
 
-same-length : tie.Need-same-length Inv-loop μ-loop
-same-length c = c .before .loop .inv .1
+same-length-2 : tie.Need-same-length-2 Inv-loop μ-loop
+same-length-2 c = c .before .loop .inv .1
 
-returns : tie.Need-returns Inv-loop μ-loop
-returns c =
-    let e : c .before .loop .c ≡ length (c .before .before .before .before .before .before .args .kind .now) = omega arith in
-    rw e at (c .before .loop .inv .2)
+returns-2 : tie.Need-returns-2 Inv-loop μ-loop
+returns-2 c =
+    let entry = c .before .before .before .before .before .before in
+    let all : c .before .loop .c ≡ length (entry .args .kind .now) = omega arith in
+    rw all at (c .before .loop .inv .2)
 
 pub unlink-unmarked-spec : {M : Type 1} → statement M
 unlink-unmarked-spec =
@@ -51,9 +82,14 @@ unlink-unmarked-spec =
     Inv-loop
     μ-loop
     loop-holds
+    of-requires
+    enum-known-cell
+    enum-told
+    same-length
+    returns
     unlink-cell-requires
     add-c
     loop-less
     loop-again
-    same-length
-    returns)
+    same-length-2
+    returns-2)

@@ -13,13 +13,16 @@ use Rattle.sweep.proofs.wiping.clear_slots.Statement.{statement}
 use Rattle.sweep.proofs.wiping.clear_slots.Tie as tie
 
 abbrev Inv-loop : tie.InvT-loop
-Inv-loop slots₀ c k₀ slots k = (k ≤ 8) × (length slots ≡ length slots₀) × (slots ≡ sets slots₀ (8 * c) (replicate k 0))
+Inv-loop slots₀ cell k₀ slots k = (k ≤ 8) × (length slots ≡ length slots₀) × (slots ≡ sets slots₀ (8 * cell .0) (replicate k 0))
 
 abbrev μ-loop : tie.MeasureT-loop
-μ-loop slots₀ c k₀ slots k = 8 - k
+μ-loop slots₀ cell k₀ slots k = 8 - k
 
 loop-holds : tie.Need-loop-holds Inv-loop μ-loop
 loop-holds c = (lit≤ tt, refl, refl)
+
+index-requires : tie.Need-index-requires Inv-loop μ-loop
+index-requires c κs = search needs
 
 mul-slots : tie.Need-mul-slots Inv-loop μ-loop
 mul-slots c = search needs
@@ -41,11 +44,16 @@ loop-less c = search needs
 
 loop-again : tie.Need-loop-again Inv-loop μ-loop
 loop-again c =
-    let l = c .before .loop in (
+    let entry = c .before .before .before .before in
+    let first = 8 * entry .args .cell .0 in
+    let loop = c .before .before .loop in
+    let index = c .index in (
       omega arith,
-      length-set (l .slots) (8 * c .before .before .args .c + l .k) 0 ∙ l .inv .1,
-      ap (λ (m : List ℕ). set m (8 * c .before .before .args .c + l .k) 0) (l .inv .2) ∙ zeros-more (l .k) (c .before .before .args .slots .now) (8 * c .before .before .args .c)
-          ∙ ap (λ (j : ℕ). sets (c .before .before .args .slots .now) (8 * c .before .before .args .c) (replicate j 0)) (sym (add-one (l .k))),
+      length-set (loop .slots) (8 * index .result + loop .k) 0 ∙ loop .inv .1,
+      ap (λ (i : ℕ). set (loop .slots) (8 * i + loop .k) 0) (index .ensures)
+          ∙ ap (λ (m : List ℕ). set m (first + loop .k) 0) (loop .inv .2)
+          ∙ zeros-more (loop .k) (entry .args .slots .now) first
+          ∙ ap (λ (j : ℕ). sets (entry .args .slots .now) first (replicate j 0)) (sym (add-one (loop .k))),
     )
 
 same-length : tie.Need-same-length Inv-loop μ-loop
@@ -53,8 +61,9 @@ same-length c = c .before .loop .inv .1
 
 returns : tie.Need-returns Inv-loop μ-loop
 returns c =
-    let e : c .before .loop .k ≡ 8 = omega arith in
-    c .before .loop .inv .2 ∙ ap (λ (j : ℕ). sets (c .before .before .args .slots .now) (8 * c .before .before .args .c) (replicate j 0)) e
+    let entry = c .before .before .before in
+    let all : c .before .loop .k ≡ 8 = omega arith in
+    c .before .loop .inv .2 ∙ ap (λ (j : ℕ). sets (entry .args .slots .now) (8 * entry .args .cell .0) (replicate j 0)) all
 
 pub clear-slots-spec : {M : Type 1} → statement M
 clear-slots-spec =
@@ -63,6 +72,7 @@ clear-slots-spec =
     Inv-loop
     μ-loop
     loop-holds
+    index-requires
     mul-slots
     add-slots
     mul-slots-2

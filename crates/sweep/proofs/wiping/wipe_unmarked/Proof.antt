@@ -6,6 +6,7 @@ use lib.ListN.{length}
 use Rattle.rules.specs.Lists.{select}
 use Rattle.sweep.specs.Phases.{isGarbage, Freed}
 use Rattle.sweep.proofs.Wipes.{freed-start, freed-length, freed-same, freed-next, freed-small}
+use borrow.Author.Needs.{needs}
 use Rattle.sweep.proofs.wiping.wipe_unmarked.Statement.{statement}
 use Rattle.sweep.proofs.wiping.wipe_unmarked.Tie as tie
 
@@ -22,26 +23,56 @@ loop-holds c =
     let entry = c .before .before .before .before .before in
     (omega arith, freed-start (isGarbage (entry .args .kind .now) (entry .args .marks .now)), refl, refl, refl, refl)
 
+of-requires : tie.Need-of-requires Inv-loop μ-loop
+of-requires c κs = search needs
+
+enum-known-cell : tie.Need-enum-known-cell Inv-loop μ-loop
+enum-known-cell c = search needs
+
+enum-told : tie.Need-enum-told Inv-loop μ-loop
+enum-told c = search needs
+
+same-length : tie.Need-same-length Inv-loop μ-loop
+same-length c = absurd (omega (arith, rw (c .enum-told .given .1) at (c .before .before .of .ensures), c .before .before .before .before .loop .inv .2))
+
+same-length-2 : tie.Need-same-length-2 Inv-loop μ-loop
+same-length-2 c = absurd (omega (arith, rw (c .enum-told .given .1) at (c .before .before .of .ensures), c .before .before .before .before .loop .inv .2))
+
+same-length-3 : tie.Need-same-length-3 Inv-loop μ-loop
+same-length-3 c = absurd (omega (arith, rw (c .enum-told .given .1) at (c .before .before .of .ensures), c .before .before .before .before .loop .inv .2))
+
+same-length-4 : tie.Need-same-length-4 Inv-loop μ-loop
+same-length-4 c = absurd (omega (arith, rw (c .enum-told .given .1) at (c .before .before .of .ensures), c .before .before .before .before .loop .inv .2))
+
+returns : tie.Need-returns Inv-loop μ-loop
+returns c = absurd (omega (arith, rw (c .enum-told .given .1) at (c .before .before .of .ensures), c .before .before .before .before .loop .inv .2))
+
 wipe-cell-requires : tie.Need-wipe-cell-requires Inv-loop μ-loop
 wipe-cell-requires c κs =
-    let entry = c .before .before .before .before .before .before .before .before .before .before .before in
-    let loop = c .before .before .before .before .before .loop in
+    let entry = c .before .before .before .before .before .before .before .before .before .before .before .before .before .before .before in
+    let loop = c .before .before .before .before .before .before .before .before .before .loop in
+    let of = c .before .before .before .before .before .before .before .of in
+    let cell = c .before .before .before .before .before .cell .given in
+    let is = rw (cell .1) at (of .ensures) in
+    let here : cell .0 .0 .0 ≡ loop .c = omega arith in
     let len = freed-length (entry .args .marks .now) (loop .c) (omega arith) (entry .pre .0) (loop .inv .1) in
     (freed-same (entry .args .marks .now) (loop .c) (omega arith) (entry .pre .0) (loop .inv .1), (omega arith, entry .pre .1 .0 ∙ sym len))
 
 add-freed : tie.Need-add-freed Inv-loop μ-loop
 add-freed c =
-    let entry = c .before .before .before .before .before .before .before .before .before .before .before .before .before .before .before .before .before .before .before .before in
-    let loop = c .before .before .before .before .before .before .before .before .before .before .before .before .before .before .loop in
-    omega (
-      arith,
-      freed-small
-          (isGarbage (entry .args .kind .now) (entry .args .marks .now))
-          (loop .c)
-          (isGarbage (loop .kind) (entry .args .marks .now) (loop .c))
-          (loop .inv .1)
-          (c .before .before .before .before .before .before .before .before .wipe-cell .ensures),
-    )
+    let entry =
+    c .before .before .before .before .before .before .before .before .before .before .before .before .before .before .before .before .before .before
+    .before .before .before .before .before .before in
+    let loop =
+    c .before .before .before .before .before .before .before .before .before .before .before .before .before .before .before .before .before .before
+    .loop in
+    let of = c .before .before .before .before .before .before .before .before .before .before .before .before .before .before .before .before .of in
+    let cell = c .before .before .before .before .before .before .before .before .before .before .before .before .before .before .cell .given in
+    let is = rw (cell .1) at (of .ensures) in
+    let here : cell .0 .0 .0 ≡ loop .c = omega arith in
+    let garbage = isGarbage (entry .args .kind .now) (entry .args .marks .now) in
+    let wiped = rw here at (c .before .before .before .before .before .before .before .before .wipe-cell .ensures) in
+    omega (arith, freed-small garbage (loop .c) (isGarbage (loop .kind) (entry .args .marks .now) (loop .c)) (loop .inv .1) wiped)
 
 add-c : tie.Need-add-c Inv-loop μ-loop
 add-c c = omega arith
@@ -51,33 +82,42 @@ loop-less c = omega arith
 
 loop-again : tie.Need-loop-again Inv-loop μ-loop
 loop-again c =
-    let entry = c .before .before .before .before .before .before .before .before .before .before .before .before .before .before .before .before .before .before .before .before in
-    let l = c .before .before .before .before .before .before .before .before .before .before .before .before .before .before .loop in
-    let s = c .before .before .before .before .before .before .before .before .wipe-cell in (
+    let entry =
+    c .before .before .before .before .before .before .before .before .before .before .before .before .before .before .before .before .before .before
+    .before .before .before .before .before .before in
+    let loop =
+    c .before .before .before .before .before .before .before .before .before .before .before .before .before .before .before .before .before .before
+    .loop in
+    let wipe-cell = c .before .before .before .before .before .before .before .before .wipe-cell in
+    let of = c .before .before .before .before .before .before .before .before .before .before .before .before .before .before .before .before .of in
+    let cell = c .before .before .before .before .before .before .before .before .before .before .before .before .before .before .cell .given in
+    let is = rw (cell .1) at (of .ensures) in
+    let here : cell .0 .0 .0 ≡ loop .c = omega arith in (
       omega arith,
-      freed-next (entry .args .marks .now) (l .c) (omega arith) (entry .pre .0) (l .inv .1) (s .ensures),
-      s .kept .0 ∙ l .inv .2,
-      s .kept .1 .0 ∙ l .inv .3,
-      s .kept .1 .1 .0 ∙ l .inv .4,
-      s .kept .1 .1 .1 .0 ∙ l .inv .5,
+      freed-next (entry .args .marks .now) (loop .c) (omega arith) (entry .pre .0) (loop .inv .1) (rw here at (wipe-cell .ensures)),
+      wipe-cell .kept .0 ∙ loop .inv .2,
+      wipe-cell .kept .1 .0 ∙ loop .inv .3,
+      wipe-cell .kept .1 .1 .0 ∙ loop .inv .4,
+      wipe-cell .kept .1 .1 .1 .0 ∙ loop .inv .5,
     )
 
-same-length : tie.Need-same-length Inv-loop μ-loop
-same-length c = c .before .loop .inv .2
+same-length-5 : tie.Need-same-length-5 Inv-loop μ-loop
+same-length-5 c = c .before .loop .inv .2
 
-same-length-2 : tie.Need-same-length-2 Inv-loop μ-loop
-same-length-2 c = c .before .loop .inv .3
+same-length-6 : tie.Need-same-length-6 Inv-loop μ-loop
+same-length-6 c = c .before .loop .inv .3
 
-same-length-3 : tie.Need-same-length-3 Inv-loop μ-loop
-same-length-3 c = c .before .loop .inv .4
+same-length-7 : tie.Need-same-length-7 Inv-loop μ-loop
+same-length-7 c = c .before .loop .inv .4
 
-same-length-4 : tie.Need-same-length-4 Inv-loop μ-loop
-same-length-4 c = c .before .loop .inv .5
+same-length-8 : tie.Need-same-length-8 Inv-loop μ-loop
+same-length-8 c = c .before .loop .inv .5
 
-returns : tie.Need-returns Inv-loop μ-loop
-returns c =
-    let e : c .before .loop .c ≡ length (c .before .before .before .before .before .before .before .args .kind .now) = omega arith in
-    rw e at (c .before .loop .inv .1)
+returns-2 : tie.Need-returns-2 Inv-loop μ-loop
+returns-2 c =
+    let entry = c .before .before .before .before .before .before .before in
+    let all : c .before .loop .c ≡ length (entry .args .kind .now) = omega arith in
+    rw all at (c .before .loop .inv .1)
 
 pub wipe-unmarked-spec : {M : Type 1} → statement M
 wipe-unmarked-spec =
@@ -86,13 +126,21 @@ wipe-unmarked-spec =
     Inv-loop
     μ-loop
     loop-holds
+    of-requires
+    enum-known-cell
+    enum-told
+    same-length
+    same-length-2
+    same-length-3
+    same-length-4
+    returns
     wipe-cell-requires
     add-freed
     add-c
     loop-less
     loop-again
-    same-length
-    same-length-2
-    same-length-3
-    same-length-4
-    returns)
+    same-length-5
+    same-length-6
+    same-length-7
+    same-length-8
+    returns-2)
