@@ -6,7 +6,6 @@ ghost use Rattle.rules.specs.Refusals.Call.{FRESH, NEW, CLEAR, COPY, LOAD, STOR
 use allocation::fresh;
 use allocation::new;
 use answers::refuse;
-use calls_collect::collect;
 use finalizers::finish;
 use finalizers::start;
 use rules::Answer;
@@ -14,6 +13,7 @@ use rules::DONE;
 use rules::SIZE;
 use soundness::admit;
 use soundness::fits;
+use sweep::collect;
 use writes::clear;
 use writes::copy;
 use writes::load;

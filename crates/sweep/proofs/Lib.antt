@@ -3,3 +3,4 @@ pub mod Lowers
 pub mod Wipes
 pub mod Rescues
 pub mod Whole
+pub mod Collecting

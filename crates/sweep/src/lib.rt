@@ -19,6 +19,9 @@ ghost use mathlib.Core.List.{[]};
 ghost use mathlib.Core.Path.{_≡_};
 ghost use lib.ListN.{length, replicate};
 ghost use Rattle.rules.specs.Heap.{tables};
+ghost use Rattle.rules.specs.Sound.{Ready};
+ghost use Rattle.rules.specs.Calls.{Did};
+ghost use Rattle.rules.specs.Refusals.Call.{COLLECT};
 ghost use Rattle.laws.specs.Sound.But.{SoundBut};
 ghost use Rattle.laws.specs.Marking.Marks.{Within};
 ghost use Rattle.sweep.specs.Phases.{Same, MarkedQueued, Swept, Collected};
@@ -69,7 +72,7 @@ fn sweep_unmarked(
 }
 
 // COLLECT with marks that are all unmarked.
-fn mark_and_sweep_with(
+fn mark_and_sweep(
     kind: &mut [u16],
     flags: &mut [u16],
     count: &mut [u16],
@@ -94,8 +97,8 @@ fn mark_and_sweep_with(
     }
 }
 
-// COLLECT, on a sound heap.
-pub fn mark_and_sweep(
+// COLLECT on a sound heap.
+pub fn collect(
     kind: &mut [u16],
     flags: &mut [u16],
     count: &mut [u16],
@@ -104,13 +107,14 @@ pub fn mark_and_sweep(
     queue: &mut [u16],
     control: &mut [u16],
 ) -> Answer
-    requires { ⌜ SoundBut (tables (now kind) (now flags) (now count) (now slots) (now roots) (now queue) (now control)) [] ⌝ }
-    ensures { λ r. ⌜ Collected (tables (now (kind .entry)) (now (flags .entry)) (now (count .entry)) (now (slots .entry)) (now (roots .entry)) (now (queue .entry)) (now (control .entry)))
+    requires { ⌜ Ready (tables (now kind) (now flags) (now count) (now slots) (now roots) (now queue) (now control)) ⌝ }
+    ensures { λ r. ⌜ Did COLLECT
+        (tables (now (kind .entry)) (now (flags .entry)) (now (count .entry)) (now (slots .entry)) (now (roots .entry)) (now (queue .entry)) (now (control .entry)))
         (tables (now (kind .exit)) (now (flags .exit)) (now (count .exit)) (now (slots .exit)) (now (roots .entry)) (now (queue .exit)) (now (control .exit))) r ⌝ }
 {
     let n = kind.len();
     let mut marks = unmarked();
-    mark_and_sweep_with(
+    mark_and_sweep(
         kind,
         flags,
         count,
