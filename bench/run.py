@@ -28,6 +28,7 @@ CASES = [
     ("clear-chain", "CLEAR that frees 1,024", 1.00),
 ]
 UNCHECKED = 700  # the most instructions of a basket call without its check
+LINE = 1000  # and of a line of the program
 
 
 def built(folder, cells):
@@ -66,31 +67,43 @@ def compare(folder):
         assert said_c == said_p, (case, said_c, said_p)
         missed += p > goal * c
         print(f"{words:<50} {c:>9,} {p:>9,} {p / c:>6.2f} {goal:>6.2f}")
-    total, said, out = measured(folder, program, "proved", "basket")
-    unchecked = (total - inclusive(out, r"calls_admission::admit")) // said[0]
-    missed += unchecked > UNCHECKED
-    print(f"{'a basket call without the check, on average':<50} {'':>9} {unchecked:>9,} {'':>6} {UNCHECKED:>6}")
     return missed
 
 
-def program_lines(folder):
-    """What a line of the program costs, beside its call alone."""
-    program = built(folder, 256)
-    total, said, _ = measured(folder, program, "proved", "basket")
-    morning = subprocess.run([program, "proved", "lines"], capture_output=True, check=True).stdout.splitlines(keepends=True)
+def unchecked(folder, program):
+    """What a call of the basket costs without its check, on average."""
+    total, said, out = measured(folder, program, "proved", "basket")
+    return (total - inclusive(out, r"soundness::admission::admit")) // said[0]
+
+
+def line(folder, program):
+    """What a line of the program costs, on average: the basket's calls as lines, over and over."""
+    basket = subprocess.run([program, "proved", "lines"], capture_output=True, check=True).stdout.splitlines(keepends=True)
     lines = folder / "lines.csv"
-    lines.write_bytes(b"".join(morning[i % len(morning)] for i in range(LINES)))
+    lines.write_bytes(b"".join(basket[i % len(basket)] for i in range(LINES)))
     with lines.open() as stdin:
         whole, _, _ = callgrind(folder, [PROGRAM], stdin=stdin)
-    print(f"{'256 cells':<50} {'call':>9} {'line':>9} {'ratio':>6}")
-    print(f"{'a line of the program, of 100,000, on average':<50} {total // said[0]:>9,} {whole // LINES:>9,} {whole / LINES / (total / said[0]):>6.2f}")
+    return whole // LINES
+
+
+def averages(folder):
+    """A row for what costs a few hundred instructions; the number of goals that are missed."""
+    small = built(folder, 256)
+    rows = [
+        ("a basket call without the check, 1,024 cells", unchecked(folder, built(folder, 1024)), UNCHECKED),
+        ("a basket call without the check, 256 cells", unchecked(folder, small), UNCHECKED),
+        ("a line of the program, 256 cells, of 100,000", line(folder, small), LINE),
+    ]
+    print(f"{'on average':<50} {'':>9} {'proved':>9} {'':>6} {'goal':>6}")
+    for words, instructions, goal in rows:
+        print(f"{words:<50} {'':>9} {instructions:>9,} {'':>6} {goal:>6,}")
+    return sum(instructions > goal for _, instructions, goal in rows)
 
 
 def main():
     subprocess.run(["make", *(path.relative_to(TOP) for path in (ARCHIVE, PROGRAM))], cwd=TOP, check=True, stdout=subprocess.DEVNULL)
     with tempfile.TemporaryDirectory() as name:
-        missed = compare(pathlib.Path(name))
-        program_lines(pathlib.Path(name))
+        missed = compare(pathlib.Path(name)) + averages(pathlib.Path(name))
     print("all goals reached" if missed == 0 else f"{missed} goals missed")
     return 0
 

@@ -15,6 +15,7 @@ TOP = pathlib.Path(__file__).resolve().parent.parent
 PLACES = [
     r"README\.md",
     r"Makefile",
+    r"tools/prove",
     r"crates\.txt",
     r"\.git(ignore|attributes)",
     r"\.ci/run",

@@ -10,42 +10,54 @@ use Rattle.steps.proofs.numbered.Tie as tie
 returns : tie.Need-returns
 unfolding callNumbered
 returns c =
-    let match = c .before .before .before .before .before .before .before .before .before .before .before .before .before .before .before .before .match in
+    let match =
+    c .before .before .before .before .before .before .before .before .before .before .before .before .before .before .before .before .match
+    in
     let new = c .before .before .before .before .before .before .before .before .new in
     obeyed-call _ _ _ _ _ (rw (match .keys1)) (new .ensures)
 
 returns-2 : tie.Need-returns-2
 unfolding callNumbered
 returns-2 c =
-    let match = c .before .before .before .before .before .before .before .before .before .before .before .before .before .before .before .before .before .before .before .before .before .before .match in
+    let match =
+    c .before .before .before .before .before .before .before .before .before .before .before .before .before .before .before .before .before
+    .before .before .before .before .before .match in
     let clear = c .before .before .before .before .before .before .before .before .before .before .before .before .before .before .clear in
     obeyed-call _ _ _ _ _ (rw (match .keys2)) (clear .ensures)
 
 returns-3 : tie.Need-returns-3
 unfolding callNumbered
 returns-3 c =
-    let match = c .before .before .before .before .before .before .before .before .before .before .before .before .before .before .before .before .before .before .before .before .before .before .match in
+    let match =
+    c .before .before .before .before .before .before .before .before .before .before .before .before .before .before .before .before .before
+    .before .before .before .before .before .match in
     let copy = c .before .before .before .before .before .before .before .before .before .before .before .before .before .before .copy in
     obeyed-call _ _ _ _ _ (rw (match .keys3)) (copy .ensures)
 
 returns-4 : tie.Need-returns-4
 unfolding callNumbered
 returns-4 c =
-    let match = c .before .before .before .before .before .before .before .before .before .before .before .before .before .before .before .before .before .before .before .before .before .before .match in
+    let match =
+    c .before .before .before .before .before .before .before .before .before .before .before .before .before .before .before .before .before
+    .before .before .before .before .before .match in
     let load = c .before .before .before .before .before .before .before .before .before .before .before .before .before .before .load in
     obeyed-call _ _ _ _ _ (rw (match .keys4)) (load .ensures)
 
 returns-5 : tie.Need-returns-5
 unfolding callNumbered
 returns-5 c =
-    let match = c .before .before .before .before .before .before .before .before .before .before .before .before .before .before .before .before .before .before .before .before .match in
+    let match =
+    c .before .before .before .before .before .before .before .before .before .before .before .before .before .before .before .before .before
+    .before .before .before .match in
     let store = c .before .before .before .before .before .before .before .before .before .before .before .before .store in
     obeyed-call _ _ _ _ _ (rw (match .keys5)) (store .ensures)
 
 returns-6 : tie.Need-returns-6
 unfolding callNumbered
 returns-6 c =
-    let match = c .before .before .before .before .before .before .before .before .before .before .before .before .before .before .before .before .before .before .before .before .match in
+    let match =
+    c .before .before .before .before .before .before .before .before .before .before .before .before .before .before .before .before .before
+    .before .before .before .match in
     let collect = c .before .before .before .before .before .before .before .before .before .before .before .before .collect in
     obeyed-call _ _ _ _ _ (rw (match .keys6)) (collect .ensures)
 
@@ -59,7 +71,9 @@ returns-7 c =
 returns-8 : tie.Need-returns-8
 unfolding callNumbered
 returns-8 c =
-    let match = c .before .before .before .before .before .before .before .before .before .before .before .before .before .before .before .before .before .before .before .before .before .before .match in
+    let match =
+    c .before .before .before .before .before .before .before .before .before .before .before .before .before .before .before .before .before
+    .before .before .before .before .before .match in
     let finish = c .before .before .before .before .before .before .before .before .before .before .before .before .before .before .finish in
     obeyed-call _ _ _ _ _ (rw (match .keys8)) (finish .ensures)
 
