@@ -33,6 +33,6 @@ impl Cell {
         requires { ⌜ self .0 < 65535 ⌝ }
         ensures { λ r. ⌜ r ≡ self .0 + 1 ⌝ }
     {
-        self.0 as u16 + 1
+        self.index() as u16 + 1
     }
 }

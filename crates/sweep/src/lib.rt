@@ -97,7 +97,7 @@ fn mark_and_sweep(
     }
 }
 
-// COLLECT on a sound heap.
+// COLLECT on a sound heap: what roots and queue do not reach is queued for its finalizer or freed.
 pub fn collect(
     kind: &mut [u16],
     flags: &mut [u16],

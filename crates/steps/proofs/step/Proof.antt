@@ -7,12 +7,6 @@ use borrow.Author.Needs.{needs}
 use Rattle.steps.proofs.step.Statement.{statement}
 use Rattle.steps.proofs.step.Tie as tie
 
-arguments-ok-requires : tie.Need-arguments-ok-requires
-arguments-ok-requires c κs = search needs
-
-refuse-requires : tie.Need-refuse-requires
-refuse-requires c κs = search needs
-
 returns : tie.Need-returns
 returns c = obeyed-line _ _ _ (call-unused _ _ _ _ (sym (c .before .before .arguments-ok .ensures) ∙ not-true _ (c .before .if1 .taken))) (c .refuse .ensures)
 
@@ -20,41 +14,6 @@ numbered-requires : tie.Need-numbered-requires
 numbered-requires c κs =
     let entry = c .before .before .before .before .before .before .before .before .before .before .before .before .before .before .before .before in
     (entry .pre)
-
-same-length : tie.Need-same-length
-same-length c =
-    let numbered = c .before .before .before .before .before .before .before .before .before .before .before .before .before .before .numbered in
-    (numbered .kept .0)
-
-same-length-2 : tie.Need-same-length-2
-same-length-2 c =
-    let numbered = c .before .before .before .before .before .before .before .before .before .before .before .before .before .before .numbered in
-    (numbered .kept .1 .0)
-
-same-length-3 : tie.Need-same-length-3
-same-length-3 c =
-    let numbered = c .before .before .before .before .before .before .before .before .before .before .before .before .before .before .numbered in
-    (numbered .kept .1 .1 .0)
-
-same-length-4 : tie.Need-same-length-4
-same-length-4 c =
-    let numbered = c .before .before .before .before .before .before .before .before .before .before .before .before .before .before .numbered in
-    (numbered .kept .1 .1 .1 .0)
-
-same-length-5 : tie.Need-same-length-5
-same-length-5 c =
-    let numbered = c .before .before .before .before .before .before .before .before .before .before .before .before .before .before .numbered in
-    (numbered .kept .1 .1 .1 .1 .0)
-
-same-length-6 : tie.Need-same-length-6
-same-length-6 c =
-    let numbered = c .before .before .before .before .before .before .before .before .before .before .before .before .before .before .numbered in
-    (numbered .kept .1 .1 .1 .1 .1 .0)
-
-same-length-7 : tie.Need-same-length-7
-same-length-7 c =
-    let numbered = c .before .before .before .before .before .before .before .before .before .before .before .before .before .before .numbered in
-    (numbered .kept .1 .1 .1 .1 .1 .1 .0)
 
 returns-2 : tie.Need-returns-2
 returns-2 c =
@@ -71,15 +30,15 @@ pub step-spec : {M : Type 1} → statement M
 step-spec =
     tie.close
     (tie.spec
-    arguments-ok-requires
-    refuse-requires
+    (λ c κs. search needs)
+    (λ c κs. search needs)
     returns
     numbered-requires
-    same-length
-    same-length-2
-    same-length-3
-    same-length-4
-    same-length-5
-    same-length-6
-    same-length-7
+    (λ c. c .before .before .before .before .before .before .before .before .before .before .before .before .before .before .numbered .kept .0)
+    (λ c. c .before .before .before .before .before .before .before .before .before .before .before .before .before .before .numbered .kept .1 .0)
+    (λ c. c .before .before .before .before .before .before .before .before .before .before .before .before .before .before .numbered .kept .1 .1 .0)
+    (λ c. c .before .before .before .before .before .before .before .before .before .before .before .before .before .before .numbered .kept .1 .1 .1 .0)
+    (λ c. c .before .before .before .before .before .before .before .before .before .before .before .before .before .before .numbered .kept .1 .1 .1 .1 .0)
+    (λ c. c .before .before .before .before .before .before .before .before .before .before .before .before .before .before .numbered .kept .1 .1 .1 .1 .1 .0)
+    (λ c. c .before .before .before .before .before .before .before .before .before .before .before .before .before .before .numbered .kept .1 .1 .1 .1 .1 .1 .0)
     returns-2)

@@ -6,22 +6,13 @@ use borrow.Author.Needs.{needs}
 use Rattle.steps.proofs.unused_zero.Statement.{statement}
 use Rattle.steps.proofs.unused_zero.Tie as tie
 
-used-or-zero-requires : tie.Need-used-or-zero-requires
-used-or-zero-requires c κs = search needs
-
 returns : tie.Need-returns
 unfolding unusedZero
 returns c = rw (sym (c .before .used-or-zero .ensures) ∙ not-true _ (c .if1 .taken))
 
-used-or-zero-requires-2 : tie.Need-used-or-zero-requires-2
-used-or-zero-requires-2 c κs = search needs
-
 returns-2 : tie.Need-returns-2
 unfolding unusedZero
 returns-2 c = rw (sym (c .before .before .before .used-or-zero .ensures) ∙ not-false _ (c .before .before .if1 .left), sym (c .before .used-or-zero2 .ensures) ∙ not-true _ (c .if2 .taken))
-
-used-or-zero-requires-3 : tie.Need-used-or-zero-requires-3
-used-or-zero-requires-3 c κs = search needs
 
 returns-3 : tie.Need-returns-3
 unfolding unusedZero
@@ -36,9 +27,9 @@ pub unused-zero-spec : {M : Type 1} → statement M
 unused-zero-spec =
     tie.close
     (tie.spec
-    used-or-zero-requires
+    (λ c κs. search needs)
     returns
-    used-or-zero-requires-2
+    (λ c κs. search needs)
     returns-2
-    used-or-zero-requires-3
+    (λ c κs. search needs)
     returns-3)

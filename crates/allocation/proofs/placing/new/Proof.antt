@@ -11,17 +11,11 @@ use borrow.Author.Needs.{needs}
 use Rattle.allocation.proofs.placing.new.Statement.{statement}
 use Rattle.allocation.proofs.placing.new.Tie as tie
 
-of-requires : tie.Need-of-requires
-of-requires c κs = search needs
-
 enum-known-to : tie.Need-enum-known-to
 enum-known-to c = search needs
 
 enum-told : tie.Need-enum-told
 enum-told c = search needs
-
-refuse-requires : tie.Need-refuse-requires
-refuse-requires c κs = search needs
 
 returns : tie.Need-returns
 returns c =
@@ -31,17 +25,11 @@ returns c =
     (λ e. omega arith)
     (c .refuse .ensures)
 
-of-requires-2 : tie.Need-of-requires-2
-of-requires-2 c κs = search needs
-
 enum-known-shape : tie.Need-enum-known-shape
 enum-known-shape c = search needs
 
 enum-told-2 : tie.Need-enum-told-2
 enum-told-2 c = search needs
-
-refuse-requires-2 : tie.Need-refuse-requires-2
-refuse-requires-2 c κs = search needs
 
 returns-2 : tie.Need-returns-2
 returns-2 c =
@@ -50,9 +38,6 @@ returns-2 c =
     (new-number _ _ _ _ (rw (c .before .enum-told2 .given .1) at (c .before .before .before .of2 .ensures)))
     (λ e. omega arith)
     (c .refuse2 .ensures)
-
-index-requires : tie.Need-index-requires
-index-requires c κs = search needs
 
 mul-if1 : tie.Need-mul-if1
 mul-if1 c =
@@ -69,9 +54,6 @@ slice-read-if1 c =
     let root = rw (to .given .1) at (of .ensures) in
     omega (arith, (c .before .index .ensures), (entry .pre .sized .roots))
 
-refuse-requires-3 : tie.Need-refuse-requires-3
-refuse-requires-3 c κs = search needs
-
 returns-3 : tie.Need-returns-3
 returns-3 c =
     let to = c .before .before .before .before .before .before .before .before .before .to in
@@ -86,9 +68,6 @@ returns-3 c =
     (new-taken _ _ _ _ (root .1) (wanted .2) (rw ((c .before .before .before .index .ensures) ∙ root .0) at (c .before .if1 .taken)))
     (λ e. omega arith)
     (c .refuse3 .ensures)
-
-lowest-free-requires : tie.Need-lowest-free-requires
-lowest-free-requires c κs = search needs
 
 enum-known-cell : tie.Need-enum-known-cell
 enum-known-cell c = search needs
@@ -202,22 +181,22 @@ pub new-spec : {M : Type 1} → statement M
 new-spec =
     tie.close
     (tie.spec
-    of-requires
+    (λ c κs. search needs)
     enum-known-to
     enum-told
-    refuse-requires
+    (λ c κs. search needs)
     returns
-    of-requires-2
+    (λ c κs. search needs)
     enum-known-shape
     enum-told-2
-    refuse-requires-2
+    (λ c κs. search needs)
     returns-2
-    index-requires
+    (λ c κs. search needs)
     mul-if1
     slice-read-if1
-    refuse-requires-3
+    (λ c κs. search needs)
     returns-3
-    lowest-free-requires
+    (λ c κs. search needs)
     enum-known-cell
     enum-told-3
     refuse-requires-4

@@ -6,20 +6,11 @@ use borrow.Author.Needs.{needs}
 use Rattle.allocation.proofs.placing.place.Statement.{statement}
 use Rattle.allocation.proofs.placing.place.Tie as tie
 
-index-requires : tie.Need-index-requires
-index-requires c κs = search needs
-
-kind-requires : tie.Need-kind-requires
-kind-requires c κs = search needs
-
 mul-kind : tie.Need-mul-kind
 mul-kind c = search needs
 
 slice-write-kind : tie.Need-slice-write-kind
 slice-write-kind c = search needs
-
-flags-requires : tie.Need-flags-requires
-flags-requires c κs = search needs
 
 mul-flags : tie.Need-mul-flags
 mul-flags c = search needs
@@ -32,12 +23,6 @@ mul-count c = search needs
 
 slice-write-count : tie.Need-slice-write-count
 slice-write-count c = search needs
-
-reference-requires : tie.Need-reference-requires
-reference-requires c κs = search needs
-
-index-requires-2 : tie.Need-index-requires-2
-index-requires-2 c κs = search needs
 
 mul-roots : tie.Need-mul-roots
 mul-roots c = search needs
@@ -71,17 +56,17 @@ pub place-spec : {M : Type 1} → statement M
 place-spec =
     tie.close
     (tie.spec
-    index-requires
-    kind-requires
+    (λ c κs. search needs)
+    (λ c κs. search needs)
     mul-kind
     slice-write-kind
-    flags-requires
+    (λ c κs. search needs)
     mul-flags
     slice-write-flags
     mul-count
     slice-write-count
-    reference-requires
-    index-requires-2
+    (λ c κs. search needs)
+    (λ c κs. search needs)
     mul-roots
     slice-write-roots
     same-length

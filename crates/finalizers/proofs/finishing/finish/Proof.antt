@@ -12,17 +12,11 @@ use borrow.Author.Needs.{needs}
 use Rattle.finalizers.proofs.finishing.finish.Statement.{statement}
 use Rattle.finalizers.proofs.finishing.finish.Tie as tie
 
-running-root-requires : tie.Need-running-root-requires
-running-root-requires c κs = search needs
-
 enum-known-running : tie.Need-enum-known-running
 enum-known-running c = search needs
 
 enum-told : tie.Need-enum-told
 enum-told c = search needs
-
-refuse-requires : tie.Need-refuse-requires
-refuse-requires c κs = search needs
 
 same-length : tie.Need-same-length
 same-length c = search needs
@@ -52,17 +46,11 @@ sub-of c =
     let run = rw (c .before .before .running .given .1) at (running-root .ensures) in
     omega (arith, head-names _ (entry .pre) (λ z. omega (arith, run .0)))
 
-of-requires : tie.Need-of-requires
-of-requires c κs = search needs
-
 enum-known-head : tie.Need-enum-known-head
 enum-known-head c = search needs
 
 enum-told-2 : tie.Need-enum-told-2
 enum-told-2 c = search needs
-
-refuse-requires-2 : tie.Need-refuse-requires-2
-refuse-requires-2 c κs = search needs
 
 same-length-2 : tie.Need-same-length-2
 same-length-2 c = search needs
@@ -75,9 +63,6 @@ returns-2 c =
     let run = rw (running .given .1) at (running-root .ensures) in
     let none = rw (c .before .enum-told2 .given .1) at (c .before .before .before .of .ensures) in
     absurd (omega (arith, head-names _ (entry .pre) (λ z. omega (arith, run .0)), (entry .pre .sized .flags)))
-
-index-requires : tie.Need-index-requires
-index-requires c κs = search needs
 
 mul-held : tie.Need-mul-held
 mul-held c =
@@ -125,11 +110,6 @@ take-off-both-requires c κs =
     let run = rw (running .given .1) at (running-root .ensures) in
     take-ready _ (entry .pre) (λ z. omega (arith, run .0)) _ _ _ _ ((leave .ensures) _ _ _) (omega (arith, (index .ensures), run .0))
 
-same-length-3 : tie.Need-same-length-3
-same-length-3 c =
-    let take-off-both = c .before .before .before .before .before .before .before .before .before .before .before .before .take-off-both in
-    (take-off-both .kept .0)
-
 same-length-4 : tie.Need-same-length-4
 same-length-4 c =
     let take-off-both = c .before .before .before .before .before .before .before .before .before .before .before .before .take-off-both in
@@ -137,23 +117,6 @@ same-length-4 c =
     c .before .before .before .before .before .before .before .before .before .before .before .before .before .before .before .before .before .before .before .before .before
     .before .before .before .before .before .before .leave in
     (take-off-both .kept .1 .0) ∙ (leave .kept .0)
-
-same-length-5 : tie.Need-same-length-5
-same-length-5 c =
-    let take-off-both = c .before .before .before .before .before .before .before .before .before .before .before .before .take-off-both in
-    (take-off-both .kept .1 .1 .0)
-
-same-length-6 : tie.Need-same-length-6
-same-length-6 c =
-    let take-off-both = c .before .before .before .before .before .before .before .before .before .before .before .before .take-off-both in
-    (take-off-both .kept .1 .1 .1 .0)
-
-same-length-7 : tie.Need-same-length-7
-same-length-7 c =
-    let leave =
-    c .before .before .before .before .before .before .before .before .before .before .before .before .before .before .before .before .before .before .before .before .before
-    .before .before .before .before .before .before .leave in
-    (leave .kept .1 .0)
 
 same-length-8 : tie.Need-same-length-8
 same-length-8 c =
@@ -198,31 +161,31 @@ pub finish-spec : {M : Type 1} → statement M
 finish-spec =
     tie.close
     (tie.spec
-    running-root-requires
+    (λ c κs. search needs)
     enum-known-running
     enum-told
-    refuse-requires
+    (λ c κs. tt)
     same-length
     returns
     slice-read-first
     cast-of
     sub-of
-    of-requires
+    (λ c κs. tt)
     enum-known-head
     enum-told-2
-    refuse-requires-2
+    (λ c κs. tt)
     same-length-2
     returns-2
-    index-requires
+    (λ c κs. tt)
     mul-held
     slice-read-held
     leave-requires
     take-off-both-requires
-    same-length-3
+    (λ c. c .before .before .before .before .before .before .before .before .before .before .before .before .take-off-both .kept .0)
     same-length-4
-    same-length-5
-    same-length-6
-    same-length-7
+    (λ c. c .before .before .before .before .before .before .before .before .before .before .before .before .take-off-both .kept .1 .1 .0)
+    (λ c. c .before .before .before .before .before .before .before .before .before .before .before .before .take-off-both .kept .1 .1 .1 .0)
+    (λ c. c .before .before .before .before .before .before .before .before .before .before .before .before .before .before .before .before .before .before .before .before .before .before .before .before .before .before .before .leave .kept .1 .0)
     same-length-8
     same-length-9
     returns-3)

@@ -6,12 +6,6 @@ use borrow.Author.Needs.{needs}
 use Rattle.finalizers.proofs.finishing.leave.Statement.{statement}
 use Rattle.finalizers.proofs.finishing.leave.Tie as tie
 
-dequeue-requires : tie.Need-dequeue-requires
-dequeue-requires c κs = search needs
-
-index-requires : tie.Need-index-requires
-index-requires c κs = search needs
-
 mul-flags : tie.Need-mul-flags
 mul-flags c = search needs
 
@@ -20,9 +14,6 @@ slice-write-flags c = search needs
 
 slice-write-control : tie.Need-slice-write-control
 slice-write-control c = search needs
-
-index-requires-2 : tie.Need-index-requires-2
-index-requires-2 c κs = search needs
 
 mul-roots : tie.Need-mul-roots
 mul-roots c = search needs
@@ -52,12 +43,12 @@ pub leave-spec : {M : Type 1} → statement M
 leave-spec =
     tie.close
     (tie.spec
-    dequeue-requires
-    index-requires
+    (λ c κs. search needs)
+    (λ c κs. search needs)
     mul-flags
     slice-write-flags
     slice-write-control
-    index-requires-2
+    (λ c κs. search needs)
     mul-roots
     slice-write-roots
     same-length

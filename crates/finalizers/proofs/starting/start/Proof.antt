@@ -12,17 +12,11 @@ use borrow.Author.Needs.{needs}
 use Rattle.finalizers.proofs.starting.start.Statement.{statement}
 use Rattle.finalizers.proofs.starting.start.Tie as tie
 
-of-requires : tie.Need-of-requires
-of-requires c κs = search needs
-
 enum-known-to : tie.Need-enum-known-to
 enum-known-to c = search needs
 
 enum-told : tie.Need-enum-told
 enum-told c = search needs
-
-refuse-requires : tie.Need-refuse-requires
-refuse-requires c κs = search needs
 
 returns : tie.Need-returns
 returns c =
@@ -32,9 +26,6 @@ returns c =
     (start-number _ _ (rw (c .before .enum-told .given .1) at (c .before .before .before .of .ensures)))
     (λ e. omega arith)
     (c .refuse .ensures)
-
-index-requires : tie.Need-index-requires
-index-requires c κs = search needs
 
 mul-held : tie.Need-mul-held
 mul-held c = let to = rw (c .before .before .to .given .1) at (c .before .before .before .before .of .ensures) in omega (arith, (c .index .ensures))
@@ -49,9 +40,6 @@ slice-read-running c =
     let entry = c .before .before .before .before .before .before .before .before .before .before .before .before .before .before in
     omega (arith, (entry .pre .sized .control))
 
-refuse-requires-2 : tie.Need-refuse-requires-2
-refuse-requires-2 c κs = search needs
-
 returns-2 : tie.Need-returns-2
 returns-2 c =
     let entry = c .before .before .before .before .before .before .before .before .before .before .before .before .before .before .before .before in
@@ -62,9 +50,6 @@ returns-2 c =
     (start-taken _ _ (to .1) (rw ((c .before .before .before .before .index .ensures) ∙ to .0) at (c .before .if1 .taken)))
     (λ e. omega arith)
     (c .refuse2 .ensures)
-
-refuse-requires-3 : tie.Need-refuse-requires-3
-refuse-requires-3 c κs = search needs
 
 returns-3 : tie.Need-returns-3
 returns-3 c =
@@ -132,12 +117,6 @@ slice-write-control c =
     c .before .before .before .before .before .before .before .before .before .before .before .before .before .before .before .before .before .before .before .before .before .before .before in
     omega (arith, (entry .pre .sized .control))
 
-done-requires : tie.Need-done-requires
-done-requires c κs = search needs
-
-same-length : tie.Need-same-length
-same-length c = (c .before .before .before .incref .kept .0)
-
 same-length-2 : tie.Need-same-length-2
 same-length-2 c = search needs
 
@@ -164,18 +143,18 @@ pub start-spec : {M : Type 1} → statement M
 start-spec =
     tie.close
     (tie.spec
-    of-requires
+    (λ c κs. search needs)
     enum-known-to
     enum-told
-    refuse-requires
+    (λ c κs. search needs)
     returns
-    index-requires
+    (λ c κs. search needs)
     mul-held
     slice-read-held
     slice-read-running
-    refuse-requires-2
+    (λ c κs. search needs)
     returns-2
-    refuse-requires-3
+    (λ c κs. search needs)
     returns-3
     slice-read-if3
     refuse-requires-4
@@ -187,8 +166,8 @@ start-spec =
     cast-control
     add-control
     slice-write-control
-    done-requires
-    same-length
+    (λ c κs. search needs)
+    (λ c. c .before .before .before .incref .kept .0)
     same-length-2
     same-length-3
     returns-5)

@@ -15,17 +15,11 @@ use borrow.Author.Needs.{needs}
 use Rattle.writes.proofs.loading.load.Statement.{statement}
 use Rattle.writes.proofs.loading.load.Tie as tie
 
-of-requires : tie.Need-of-requires
-of-requires c κs = search needs
-
 enum-known-target : tie.Need-enum-known-target
 enum-known-target c = search needs
 
 enum-told : tie.Need-enum-told
 enum-told c = search needs
-
-refuse-requires : tie.Need-refuse-requires
-refuse-requires c κs = search needs
 
 returns : tie.Need-returns
 returns c =
@@ -36,17 +30,11 @@ returns c =
     (λ e. omega arith)
     (c .refuse .ensures)
 
-of-requires-2 : tie.Need-of-requires-2
-of-requires-2 c κs = search needs
-
 enum-known-holder : tie.Need-enum-known-holder
 enum-known-holder c = search needs
 
 enum-told-2 : tie.Need-enum-told-2
 enum-told-2 c = search needs
-
-refuse-requires-2 : tie.Need-refuse-requires-2
-refuse-requires-2 c κs = search needs
 
 returns-2 : tie.Need-returns-2
 returns-2 c =
@@ -58,17 +46,11 @@ returns-2 c =
     (λ e. omega arith)
     (c .refuse2 .ensures)
 
-of-requires-3 : tie.Need-of-requires-3
-of-requires-3 c κs = search needs
-
 enum-known-at : tie.Need-enum-known-at
 enum-known-at c = search needs
 
 enum-told-3 : tie.Need-enum-told-3
 enum-told-3 c = search needs
-
-refuse-requires-3 : tie.Need-refuse-requires-3
-refuse-requires-3 c κs = search needs
 
 returns-3 : tie.Need-returns-3
 returns-3 c =
@@ -101,9 +83,6 @@ refuse-requires-4 c κs = search needs
 enum-known-cell : tie.Need-enum-known-cell
 enum-known-cell c = search needs
 
-index-requires : tie.Need-index-requires
-index-requires c κs = search needs
-
 mul-r : tie.Need-mul-r
 mul-r c =
     let entry =
@@ -116,9 +95,6 @@ mul-r c =
       (c .index .ensures),
       (entry .pre .sized .most),
     )
-
-index-requires-2 : tie.Need-index-requires-2
-index-requires-2 c κs = search needs
 
 add-r : tie.Need-add-r
 add-r c =
@@ -188,12 +164,6 @@ write-root-requires c κs =
     ))
     (slot-used _ [] (ready-facts (entry .pre)) _)
 
-same-length : tie.Need-same-length
-same-length c = refl
-
-same-length-2 : tie.Need-same-length-2
-same-length-2 c = refl
-
 returns-4 : tie.Need-returns-4
 returns-4 c =
     let at-why = c .before .before in
@@ -216,41 +186,6 @@ returns-4 c =
     (of .0)
     (rw (at-why .why .given .1) at (at-object-of .object-of .ensures))
     (c .refuse4 .ensures)
-
-same-length-3 : tie.Need-same-length-3
-same-length-3 c =
-    let write-root = c .before .before .before .before .before .before .before .before .before .before .before .before .before .before .write-root in
-    (write-root .kept .0)
-
-same-length-4 : tie.Need-same-length-4
-same-length-4 c =
-    let write-root = c .before .before .before .before .before .before .before .before .before .before .before .before .before .before .write-root in
-    (write-root .kept .1 .0)
-
-same-length-5 : tie.Need-same-length-5
-same-length-5 c =
-    let write-root = c .before .before .before .before .before .before .before .before .before .before .before .before .before .before .write-root in
-    (write-root .kept .1 .1 .0)
-
-same-length-6 : tie.Need-same-length-6
-same-length-6 c =
-    let write-root = c .before .before .before .before .before .before .before .before .before .before .before .before .before .before .write-root in
-    (write-root .kept .1 .1 .1 .0)
-
-same-length-7 : tie.Need-same-length-7
-same-length-7 c =
-    let write-root = c .before .before .before .before .before .before .before .before .before .before .before .before .before .before .write-root in
-    (write-root .kept .1 .1 .1 .1 .0)
-
-same-length-8 : tie.Need-same-length-8
-same-length-8 c =
-    let write-root = c .before .before .before .before .before .before .before .before .before .before .before .before .before .before .write-root in
-    (write-root .kept .1 .1 .1 .1 .1 .0)
-
-same-length-9 : tie.Need-same-length-9
-same-length-9 c =
-    let write-root = c .before .before .before .before .before .before .before .before .before .before .before .before .before .before .write-root in
-    (write-root .kept .1 .1 .1 .1 .1 .1 .0)
 
 returns-5 : tie.Need-returns-5
 returns-5 c =
@@ -280,40 +215,40 @@ pub load-spec : {M : Type 1} → statement M
 load-spec =
     tie.close
     (tie.spec
-    of-requires
+    (λ c κs. tt)
     enum-known-target
     enum-told
-    refuse-requires
+    (λ c κs. tt)
     returns
-    of-requires-2
+    (λ c κs. tt)
     enum-known-holder
     enum-told-2
-    refuse-requires-2
+    (λ c κs. tt)
     returns-2
-    of-requires-3
+    (λ c κs. tt)
     enum-known-at
     enum-told-3
-    refuse-requires-3
+    (λ c κs. tt)
     returns-3
     object-of-requires
     enum-known-why
     refuse-requires-4
     enum-known-cell
-    index-requires
+    (λ c κs. tt)
     mul-r
-    index-requires-2
+    (λ c κs. tt)
     add-r
     mul-r-2
     slice-read-r
     write-root-requires
-    same-length
-    same-length-2
+    (λ c. refl)
+    (λ c. refl)
     returns-4
-    same-length-3
-    same-length-4
-    same-length-5
-    same-length-6
-    same-length-7
-    same-length-8
-    same-length-9
+    (λ c. c .before .before .before .before .before .before .before .before .before .before .before .before .before .before .write-root .kept .0)
+    (λ c. c .before .before .before .before .before .before .before .before .before .before .before .before .before .before .write-root .kept .1 .0)
+    (λ c. c .before .before .before .before .before .before .before .before .before .before .before .before .before .before .write-root .kept .1 .1 .0)
+    (λ c. c .before .before .before .before .before .before .before .before .before .before .before .before .before .before .write-root .kept .1 .1 .1 .0)
+    (λ c. c .before .before .before .before .before .before .before .before .before .before .before .before .before .before .write-root .kept .1 .1 .1 .1 .0)
+    (λ c. c .before .before .before .before .before .before .before .before .before .before .before .before .before .before .write-root .kept .1 .1 .1 .1 .1 .0)
+    (λ c. c .before .before .before .before .before .before .before .before .before .before .before .before .before .before .write-root .kept .1 .1 .1 .1 .1 .1 .0)
     returns-5)

@@ -9,9 +9,6 @@ use borrow.Author.Needs.{needs}
 use Rattle.writes.proofs.objects.object_of.Statement.{statement}
 use Rattle.writes.proofs.objects.object_of.Tie as tie
 
-index-requires : tie.Need-index-requires
-index-requires c κs = search needs
-
 mul-r : tie.Need-mul-r
 mul-r c = search needs
 
@@ -26,9 +23,6 @@ cast-c c = omega (arith, (c .before .shared-slice-known3 .given) (c .before .bef
 
 sub-c : tie.Need-sub-c
 sub-c c = search needs
-
-of-requires : tie.Need-of-requires
-of-requires c κs = search needs
 
 enum-known-cell : tie.Need-enum-known-cell
 enum-known-cell c = search needs
@@ -71,13 +65,13 @@ pub object-of-spec : {M : Type 1} → statement M
 object-of-spec =
     tie.close
     (tie.spec
-    index-requires
+    (λ c κs. tt)
     mul-r
     shared-slice-read-r
     returns
     cast-c
     sub-c
-    of-requires
+    (λ c κs. tt)
     enum-known-cell
     enum-told
     returns-2

@@ -11,17 +11,11 @@ use borrow.Author.Needs.{needs}
 use Rattle.writes.proofs.roots.clear.Statement.{statement}
 use Rattle.writes.proofs.roots.clear.Tie as tie
 
-of-requires : tie.Need-of-requires
-of-requires c κs = search needs
-
 enum-known-to : tie.Need-enum-known-to
 enum-known-to c = search needs
 
 enum-told : tie.Need-enum-told
 enum-told c = search needs
-
-refuse-requires : tie.Need-refuse-requires
-refuse-requires c κs = search needs
 
 returns : tie.Need-returns
 returns c =
@@ -44,41 +38,6 @@ write-root-requires c κs =
     ))
     (λ d e. absurd (omega arith))
 
-same-length : tie.Need-same-length
-same-length c =
-    let write-root = c .before .before .before .before .before .before .before .before .before .before .before .before .before .before .write-root in
-    (write-root .kept .0)
-
-same-length-2 : tie.Need-same-length-2
-same-length-2 c =
-    let write-root = c .before .before .before .before .before .before .before .before .before .before .before .before .before .before .write-root in
-    (write-root .kept .1 .0)
-
-same-length-3 : tie.Need-same-length-3
-same-length-3 c =
-    let write-root = c .before .before .before .before .before .before .before .before .before .before .before .before .before .before .write-root in
-    (write-root .kept .1 .1 .0)
-
-same-length-4 : tie.Need-same-length-4
-same-length-4 c =
-    let write-root = c .before .before .before .before .before .before .before .before .before .before .before .before .before .before .write-root in
-    (write-root .kept .1 .1 .1 .0)
-
-same-length-5 : tie.Need-same-length-5
-same-length-5 c =
-    let write-root = c .before .before .before .before .before .before .before .before .before .before .before .before .before .before .write-root in
-    (write-root .kept .1 .1 .1 .1 .0)
-
-same-length-6 : tie.Need-same-length-6
-same-length-6 c =
-    let write-root = c .before .before .before .before .before .before .before .before .before .before .before .before .before .before .write-root in
-    (write-root .kept .1 .1 .1 .1 .1 .0)
-
-same-length-7 : tie.Need-same-length-7
-same-length-7 c =
-    let write-root = c .before .before .before .before .before .before .before .before .before .before .before .before .before .before .write-root in
-    (write-root .kept .1 .1 .1 .1 .1 .1 .0)
-
 returns-2 : tie.Need-returns-2
 returns-2 c =
     let at-write-root = c .before .before .before .before .before .before .before .before .before .before .before .before .before .before in
@@ -91,17 +50,17 @@ pub clear-spec : {M : Type 1} → statement M
 clear-spec =
     tie.close
     (tie.spec
-    of-requires
+    (λ c κs. tt)
     enum-known-to
     enum-told
-    refuse-requires
+    (λ c κs. tt)
     returns
     write-root-requires
-    same-length
-    same-length-2
-    same-length-3
-    same-length-4
-    same-length-5
-    same-length-6
-    same-length-7
+    (λ c. c .before .before .before .before .before .before .before .before .before .before .before .before .before .before .write-root .kept .0)
+    (λ c. c .before .before .before .before .before .before .before .before .before .before .before .before .before .before .write-root .kept .1 .0)
+    (λ c. c .before .before .before .before .before .before .before .before .before .before .before .before .before .before .write-root .kept .1 .1 .0)
+    (λ c. c .before .before .before .before .before .before .before .before .before .before .before .before .before .before .write-root .kept .1 .1 .1 .0)
+    (λ c. c .before .before .before .before .before .before .before .before .before .before .before .before .before .before .write-root .kept .1 .1 .1 .1 .0)
+    (λ c. c .before .before .before .before .before .before .before .before .before .before .before .before .before .before .write-root .kept .1 .1 .1 .1 .1 .0)
+    (λ c. c .before .before .before .before .before .before .before .before .before .before .before .before .before .before .write-root .kept .1 .1 .1 .1 .1 .1 .0)
     returns-2)

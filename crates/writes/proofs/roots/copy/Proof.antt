@@ -14,17 +14,11 @@ use borrow.Author.Needs.{needs}
 use Rattle.writes.proofs.roots.copy.Statement.{statement}
 use Rattle.writes.proofs.roots.copy.Tie as tie
 
-of-requires : tie.Need-of-requires
-of-requires c κs = search needs
-
 enum-known-target : tie.Need-enum-known-target
 enum-known-target c = search needs
 
 enum-told : tie.Need-enum-told
 enum-told c = search needs
-
-refuse-requires : tie.Need-refuse-requires
-refuse-requires c κs = search needs
 
 returns : tie.Need-returns
 returns c =
@@ -35,17 +29,11 @@ returns c =
     (λ e. omega arith)
     (c .refuse .ensures)
 
-of-requires-2 : tie.Need-of-requires-2
-of-requires-2 c κs = search needs
-
 enum-known-source : tie.Need-enum-known-source
 enum-known-source c = search needs
 
 enum-told-2 : tie.Need-enum-told-2
 enum-told-2 c = search needs
-
-refuse-requires-2 : tie.Need-refuse-requires-2
-refuse-requires-2 c κs = search needs
 
 returns-2 : tie.Need-returns-2
 returns-2 c =
@@ -56,9 +44,6 @@ returns-2 c =
     (copy-from _ _ _ (omega (arith, rw (c .before .enum-told2 .given .1) at (c .before .before .before .of2 .ensures))))
     (λ e. omega arith)
     (c .refuse2 .ensures)
-
-index-requires : tie.Need-index-requires
-index-requires c κs = search needs
 
 mul-r : tie.Need-mul-r
 mul-r c = omega (
@@ -92,41 +77,6 @@ write-root-requires c κs =
     (omega (arith, (rw (target .given .1) at (of .ensures)), (rw (c .before .before .before .before .before .before .before .before .before .before .source .given .1) at (of2 .ensures))))
     (root-used _ [] (ready-facts (entry .pre)) _)
 
-same-length : tie.Need-same-length
-same-length c =
-    let write-root = c .before .before .before .before .before .before .before .before .before .before .before .before .before .before .write-root in
-    (write-root .kept .0)
-
-same-length-2 : tie.Need-same-length-2
-same-length-2 c =
-    let write-root = c .before .before .before .before .before .before .before .before .before .before .before .before .before .before .write-root in
-    (write-root .kept .1 .0)
-
-same-length-3 : tie.Need-same-length-3
-same-length-3 c =
-    let write-root = c .before .before .before .before .before .before .before .before .before .before .before .before .before .before .write-root in
-    (write-root .kept .1 .1 .0)
-
-same-length-4 : tie.Need-same-length-4
-same-length-4 c =
-    let write-root = c .before .before .before .before .before .before .before .before .before .before .before .before .before .before .write-root in
-    (write-root .kept .1 .1 .1 .0)
-
-same-length-5 : tie.Need-same-length-5
-same-length-5 c =
-    let write-root = c .before .before .before .before .before .before .before .before .before .before .before .before .before .before .write-root in
-    (write-root .kept .1 .1 .1 .1 .0)
-
-same-length-6 : tie.Need-same-length-6
-same-length-6 c =
-    let write-root = c .before .before .before .before .before .before .before .before .before .before .before .before .before .before .write-root in
-    (write-root .kept .1 .1 .1 .1 .1 .0)
-
-same-length-7 : tie.Need-same-length-7
-same-length-7 c =
-    let write-root = c .before .before .before .before .before .before .before .before .before .before .before .before .before .before .write-root in
-    (write-root .kept .1 .1 .1 .1 .1 .1 .0)
-
 returns-3 : tie.Need-returns-3
 returns-3 c =
     let at-write-root = c .before .before .before .before .before .before .before .before .before .before .before .before .before .before in
@@ -147,25 +97,25 @@ pub copy-spec : {M : Type 1} → statement M
 copy-spec =
     tie.close
     (tie.spec
-    of-requires
+    (λ c κs. tt)
     enum-known-target
     enum-told
-    refuse-requires
+    (λ c κs. tt)
     returns
-    of-requires-2
+    (λ c κs. tt)
     enum-known-source
     enum-told-2
-    refuse-requires-2
+    (λ c κs. tt)
     returns-2
-    index-requires
+    (λ c κs. tt)
     mul-r
     slice-read-r
     write-root-requires
-    same-length
-    same-length-2
-    same-length-3
-    same-length-4
-    same-length-5
-    same-length-6
-    same-length-7
+    (λ c. c .before .before .before .before .before .before .before .before .before .before .before .before .before .before .write-root .kept .0)
+    (λ c. c .before .before .before .before .before .before .before .before .before .before .before .before .before .before .write-root .kept .1 .0)
+    (λ c. c .before .before .before .before .before .before .before .before .before .before .before .before .before .before .write-root .kept .1 .1 .0)
+    (λ c. c .before .before .before .before .before .before .before .before .before .before .before .before .before .before .write-root .kept .1 .1 .1 .0)
+    (λ c. c .before .before .before .before .before .before .before .before .before .before .before .before .before .before .write-root .kept .1 .1 .1 .1 .0)
+    (λ c. c .before .before .before .before .before .before .before .before .before .before .before .before .before .before .write-root .kept .1 .1 .1 .1 .1 .0)
+    (λ c. c .before .before .before .before .before .before .before .before .before .before .before .before .before .before .write-root .kept .1 .1 .1 .1 .1 .1 .0)
     returns-3)

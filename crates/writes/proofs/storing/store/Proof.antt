@@ -15,17 +15,11 @@ use borrow.Author.Needs.{needs}
 use Rattle.writes.proofs.storing.store.Statement.{statement}
 use Rattle.writes.proofs.storing.store.Tie as tie
 
-of-requires : tie.Need-of-requires
-of-requires c κs = search needs
-
 enum-known-holder : tie.Need-enum-known-holder
 enum-known-holder c = search needs
 
 enum-told : tie.Need-enum-told
 enum-told c = search needs
-
-refuse-requires : tie.Need-refuse-requires
-refuse-requires c κs = search needs
 
 returns : tie.Need-returns
 returns c =
@@ -36,17 +30,11 @@ returns c =
     (λ e. omega arith)
     (c .refuse .ensures)
 
-of-requires-2 : tie.Need-of-requires-2
-of-requires-2 c κs = search needs
-
 enum-known-at : tie.Need-enum-known-at
 enum-known-at c = search needs
 
 enum-told-2 : tie.Need-enum-told-2
 enum-told-2 c = search needs
-
-refuse-requires-2 : tie.Need-refuse-requires-2
-refuse-requires-2 c κs = search needs
 
 returns-2 : tie.Need-returns-2
 returns-2 c =
@@ -58,17 +46,11 @@ returns-2 c =
     (λ e. omega arith)
     (c .refuse2 .ensures)
 
-of-requires-3 : tie.Need-of-requires-3
-of-requires-3 c κs = search needs
-
 enum-known-source : tie.Need-enum-known-source
 enum-known-source c = search needs
 
 enum-told-3 : tie.Need-enum-told-3
 enum-told-3 c = search needs
-
-refuse-requires-3 : tie.Need-refuse-requires-3
-refuse-requires-3 c κs = search needs
 
 returns-3 : tie.Need-returns-3
 returns-3 c =
@@ -100,9 +82,6 @@ refuse-requires-4 c κs = search needs
 
 enum-known-cell : tie.Need-enum-known-cell
 enum-known-cell c = search needs
-
-index-requires : tie.Need-index-requires
-index-requires c κs = search needs
 
 mul-r : tie.Need-mul-r
 mul-r c =
@@ -146,9 +125,6 @@ write-slot-requires c κs =
     ))
     (root-used _ [] (ready-facts (entry .pre)) _)
 
-same-length : tie.Need-same-length
-same-length c = refl
-
 returns-4 : tie.Need-returns-4
 returns-4 c =
     let at-why = c .before .before in
@@ -171,36 +147,6 @@ returns-4 c =
     (of .0)
     (rw (at-why .why .given .1) at (at-object-of .object-of .ensures))
     (c .refuse4 .ensures)
-
-same-length-2 : tie.Need-same-length-2
-same-length-2 c =
-    let write-slot = c .before .before .before .before .before .before .before .before .before .before .before .before .write-slot in
-    (write-slot .kept .0)
-
-same-length-3 : tie.Need-same-length-3
-same-length-3 c =
-    let write-slot = c .before .before .before .before .before .before .before .before .before .before .before .before .write-slot in
-    (write-slot .kept .1 .0)
-
-same-length-4 : tie.Need-same-length-4
-same-length-4 c =
-    let write-slot = c .before .before .before .before .before .before .before .before .before .before .before .before .write-slot in
-    (write-slot .kept .1 .1 .0)
-
-same-length-5 : tie.Need-same-length-5
-same-length-5 c =
-    let write-slot = c .before .before .before .before .before .before .before .before .before .before .before .before .write-slot in
-    (write-slot .kept .1 .1 .1 .0)
-
-same-length-6 : tie.Need-same-length-6
-same-length-6 c =
-    let write-slot = c .before .before .before .before .before .before .before .before .before .before .before .before .write-slot in
-    (write-slot .kept .1 .1 .1 .1 .0)
-
-same-length-7 : tie.Need-same-length-7
-same-length-7 c =
-    let write-slot = c .before .before .before .before .before .before .before .before .before .before .before .before .write-slot in
-    (write-slot .kept .1 .1 .1 .1 .1 .0)
 
 returns-5 : tie.Need-returns-5
 returns-5 c =
@@ -228,35 +174,35 @@ pub store-spec : {M : Type 1} → statement M
 store-spec =
     tie.close
     (tie.spec
-    of-requires
+    (λ c κs. tt)
     enum-known-holder
     enum-told
-    refuse-requires
+    (λ c κs. tt)
     returns
-    of-requires-2
+    (λ c κs. tt)
     enum-known-at
     enum-told-2
-    refuse-requires-2
+    (λ c κs. tt)
     returns-2
-    of-requires-3
+    (λ c κs. tt)
     enum-known-source
     enum-told-3
-    refuse-requires-3
+    (λ c κs. tt)
     returns-3
     object-of-requires
     enum-known-why
     refuse-requires-4
     enum-known-cell
-    index-requires
+    (λ c κs. tt)
     mul-r
     shared-slice-read-r
     write-slot-requires
-    same-length
+    (λ c. refl)
     returns-4
-    same-length-2
-    same-length-3
-    same-length-4
-    same-length-5
-    same-length-6
-    same-length-7
+    (λ c. c .before .before .before .before .before .before .before .before .before .before .before .before .write-slot .kept .0)
+    (λ c. c .before .before .before .before .before .before .before .before .before .before .before .before .write-slot .kept .1 .0)
+    (λ c. c .before .before .before .before .before .before .before .before .before .before .before .before .write-slot .kept .1 .1 .0)
+    (λ c. c .before .before .before .before .before .before .before .before .before .before .before .before .write-slot .kept .1 .1 .1 .0)
+    (λ c. c .before .before .before .before .before .before .before .before .before .before .before .before .write-slot .kept .1 .1 .1 .1 .0)
+    (λ c. c .before .before .before .before .before .before .before .before .before .before .before .before .write-slot .kept .1 .1 .1 .1 .1 .0)
     returns-5)
