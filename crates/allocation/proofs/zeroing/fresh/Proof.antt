@@ -52,8 +52,12 @@ fresh-spec =
     zero-requires-6
     zero-requires-7
     (λ c κs. search needs)
-    (λ c. c .before .before .before .before .before .before .before .before .before .before .before .before .before .before .before .before .before .before .before .before .before .before .before .before .before .before .before .zero .kept .0)
-    (λ c. c .before .before .before .before .before .before .before .before .before .before .before .before .before .before .before .before .before .before .before .before .before .before .before .zero2 .kept .0)
+    (λ c.
+    c .before .before .before .before .before .before .before .before .before .before .before .before .before .before .before .before .before .before
+    .before .before .before .before .before .before .before .before .before .zero .kept .0)
+    (λ c.
+    c .before .before .before .before .before .before .before .before .before .before .before .before .before .before .before .before .before .before
+    .before .before .before .before .before .zero2 .kept .0)
     (λ c. c .before .before .before .before .before .before .before .before .before .before .before .before .before .before .before .before .before .before .before .zero3 .kept .0)
     (λ c. c .before .before .before .before .before .before .before .before .before .before .before .before .before .before .before .zero4 .kept .0)
     (λ c. c .before .before .before .before .before .before .before .before .before .before .before .zero5 .kept .0)

@@ -185,7 +185,9 @@ finish-spec =
     same-length-4
     (λ c. c .before .before .before .before .before .before .before .before .before .before .before .before .take-off-both .kept .1 .1 .0)
     (λ c. c .before .before .before .before .before .before .before .before .before .before .before .before .take-off-both .kept .1 .1 .1 .0)
-    (λ c. c .before .before .before .before .before .before .before .before .before .before .before .before .before .before .before .before .before .before .before .before .before .before .before .before .before .before .before .leave .kept .1 .0)
+    (λ c.
+    c .before .before .before .before .before .before .before .before .before .before .before .before .before .before .before .before .before .before
+    .before .before .before .before .before .before .before .before .before .leave .kept .1 .0)
     same-length-8
     same-length-9
     returns-3)
