@@ -1,5 +1,5 @@
 // Marking: cells and slots mark each other, nested at most DEPTH deep; a cell met at that depth is noted, and served by a later scan.
-// Only `unmarked`, `mark_of`, `set_mark`, `to_mark` and `note` know how marks are kept.
+// Only `unmarked`, `mark_of`, `set_marked`, `to_mark` and `note` know how marks are kept.
 use numbers::cell::Cell;
 use numbers::cell::CellNumber;
 use numbers::slot::Slot;
@@ -38,12 +38,12 @@ pub fn mark_of(marks: &[u8], cell: Cell) -> u8
     marks[cell.index()]
 }
 
-// Gives a cell its mark.
-fn set_mark(marks: &mut [u8], cell: Cell, mark: u8)
+// A cell is marked.
+fn set_marked(marks: &mut [u8], cell: Cell)
     requires { ⌜ cell .0 < length (now marks) ⌝ }
-    ensures { λ _. ⌜ now (marks .exit) ≡ set (now (marks .entry)) (cell .0) mark ⌝ }
+    ensures { λ _. ⌜ now (marks .exit) ≡ set (now (marks .entry)) (cell .0) 1 ⌝ }
 {
-    marks[cell.index()] = mark;
+    marks[cell.index()] = MARKED;
 }
 
 // Does a reference name a cell that is not marked? A noted cell is not: met with depth left it is marked at once.
@@ -71,7 +71,7 @@ fn mark_cell(slots: &[u16], marks: &mut [u8], cell: Cell, depth: usize)
     requires { ⌜ (cell .0 < length (now marks)) × (0 < depth) ⌝ }
     ensures { λ _. ⌜ now (marks .exit) ≡ markCell depth (now (slots .entry)) (now (marks .entry)) (cell .0) ⌝ }
 {
-    set_mark(marks, cell, MARKED);
+    set_marked(marks, cell);
     for k in 0..8 {
         let SlotNumber::Is(slot) = Slot::of(k) else {
             return;

@@ -18,7 +18,7 @@ use Rattle.marking.proofs.+mark_cell+mark_slot.Lts-mark_cell as mark-ce
 use Rattle.marking.proofs.mark_slot.Reads as mark-slot
 use Rattle.marking.proofs.mark_slot.Kinds as mark-slot-kinds
 use Rattle.marking.proofs.+mark_cell+mark_slot.Lts-mark_slot as mark-slot-lts
-use Rattle.marking.proofs.set_mark.Reads as set-mark
+use Rattle.marking.proofs.set_marked.Reads as set-marked
 use Rattle.marking.proofs.to_mark.Reads as to-mark
 use Rattle.marking.proofs.note.Reads as note
 use Rattle.numbers.proofs.cell.Cell.index.Reads as cell-index
@@ -48,7 +48,7 @@ mark-slot-below t = and 2 mark-slot-kinds.ps (falls 2 mark-slot-kinds.ps _<_ μ-
 
 -- what each of the two is told of the functions that it calls
 abbrev mark-cell-claims : ℕ → mark-cell-lts.Claims
-mark-cell-claims t = (set-mark.Asked, set-mark.Learnt, slot-of.Asked, slot-of.Learnt, mark-slot-below t, mark-slot.Post)
+mark-cell-claims t = (set-marked.Asked, set-marked.Learnt, slot-of.Asked, slot-of.Learnt, mark-slot-below t, mark-slot.Post)
 
 abbrev mark-slot-claims : ℕ → mark-slot-lts.Claims
 mark-slot-claims t = (
@@ -75,14 +75,14 @@ mark-cell-μ-loop slots marks₀ cell depth k₀ marks k = 8 - k
 
 -- t is the member's own measure
 module _ (t : ℕ) where
-  mark-cell-set-mark-requires : mark-cell-lts.Need-set-mark-requires (mark-cell-claims t) (mark-cell-at t) mark-cell.Post mark-cell-Inv-loop mark-cell-μ-loop
-  mark-cell-set-mark-requires c κs = search needs
+  mark-cell-set-marked-requires : mark-cell-lts.Need-set-marked-requires (mark-cell-claims t) (mark-cell-at t) mark-cell.Post mark-cell-Inv-loop mark-cell-μ-loop
+  mark-cell-set-marked-requires c κs = search needs
 
   mark-cell-loop-holds : mark-cell-lts.Need-loop-holds (mark-cell-claims t) (mark-cell-at t) mark-cell.Post mark-cell-Inv-loop mark-cell-μ-loop
   mark-cell-loop-holds c =
       let entry = c .before .before .before .before .before .before in
       let step : List ℕ → ℕ → List ℕ = markSlot (entry .args .depth - 1) (entry .args .slots .now) in
-      (lit≤ tt, refl, each-none step (c .before .before .set-mark .last .0) (slotsOf (entry .args .slots .now) (entry .args .cell .0)))
+      (lit≤ tt, refl, each-none step (c .before .before .set-marked .last .0) (slotsOf (entry .args .slots .now) (entry .args .cell .0)))
 
   mark-cell-of-requires : mark-cell-lts.Need-of-requires (mark-cell-claims t) (mark-cell-at t) mark-cell.Post mark-cell-Inv-loop mark-cell-μ-loop
   mark-cell-of-requires c κs = search needs
@@ -106,7 +106,7 @@ module _ (t : ℕ) where
   mark-cell-mark-slot-requires c κs =
       let entry = c .before .before .before .before .before .before .before .before .before .before .before .before .before in
       let loop = c .before .before .before .before .before .before .loop in
-      let same : length (loop .marks) ≡ length (entry .args .marks .now) = loop .inv .1 ∙ c .before .before .before .before .before .before .before .before .before .set-mark .kept .0 in
+      let same : length (loop .marks) ≡ length (entry .args .marks .now) = loop .inv .1 ∙ c .before .before .before .before .before .before .before .before .before .set-marked .kept .0 in
       let is = rw (c .before .before .slot .given .1) at (c .before .before .before .before .of .ensures) in
       (omega arith, (rw same (entry .pre .1 .0), (omega arith, omega arith)))
 
@@ -122,7 +122,7 @@ module _ (t : ℕ) where
       let cell = entry .args .cell .0 in
       let slots = entry .args .slots .now in
       let loop = c .before .before .before .before .before .before .before .before .before .loop in
-      let set-mark = c .before .before .before .before .before .before .before .before .before .before .before .before .set-mark in
+      let set-marked = c .before .before .before .before .before .before .before .before .before .before .before .before .set-marked in
       let mark-slot = c .before .before .mark-slot in
       let is = rw (c .before .before .before .before .before .slot .given .1) at (c .before .before .before .before .before .before .before .of .ensures) in
       let step : List ℕ → ℕ → List ℕ = markSlot (entry .args .depth - 1) slots in (
@@ -130,11 +130,11 @@ module _ (t : ℕ) where
         mark-slot .kept .1 .0 ∙ loop .inv .1,
         mark-slot .ensures ∙ ap (λ (j : ℕ). step (loop .marks) (getD slots (8 * cell + j) 0)) (is .0)
             ∙ ap (λ (m : List ℕ). step m (getD slots (8 * cell + loop .k) 0)) (loop .inv .2)
-            ∙ each-slot (length (entry .args .marks .now)) cell (entry .pre .1 .0) (entry .pre .1 .1 .0) step (set-mark .last .0) (loop .k) (omega arith),
+            ∙ each-slot (length (entry .args .marks .now)) cell (entry .pre .1 .0) (entry .pre .1 .1 .0) step (set-marked .last .0) (loop .k) (omega arith),
       )
 
   mark-cell-same-length-2 : mark-cell-lts.Need-same-length-2 (mark-cell-claims t) (mark-cell-at t) mark-cell.Post mark-cell-Inv-loop mark-cell-μ-loop
-  mark-cell-same-length-2 c = c .before .loop .inv .1 ∙ c .before .before .before .before .set-mark .kept .0
+  mark-cell-same-length-2 c = c .before .loop .inv .1 ∙ c .before .before .before .before .set-marked .kept .0
 
   mark-cell-returns-2 : mark-cell-lts.Need-returns-2 (mark-cell-claims t) (mark-cell-at t) mark-cell.Post mark-cell-Inv-loop mark-cell-μ-loop
   mark-cell-returns-2 c =
@@ -143,10 +143,10 @@ module _ (t : ℕ) where
       let slots = entry .args .slots .now in
       let marks = entry .args .marks .now in
       let loop = c .before .loop in
-      let set-mark = c .before .before .before .before .set-mark in
+      let set-marked = c .before .before .before .before .set-marked in
       let step : List ℕ → ℕ → List ℕ = markSlot (entry .args .depth - 1) slots in
-      loop .inv .2 ∙ each-slots (length marks) cell (entry .pre .1 .0) (entry .pre .1 .1 .0) step (set-mark .last .0) (loop .k) (omega arith)
-      ∙ ap (λ (m : List ℕ). each step m (slotsOf slots cell)) (set-mark .ensures)
+      loop .inv .2 ∙ each-slots (length marks) cell (entry .pre .1 .0) (entry .pre .1 .1 .0) step (set-marked .last .0) (loop .k) (omega arith)
+      ∙ ap (λ (m : List ℕ). each step m (slotsOf slots cell)) (set-marked .ensures)
       ∙ sym (cell-deep slots marks cell (entry .args .depth) (λ e. omega arith))
 
   mark-slot-index-requires : mark-slot-lts.Need-index-requires (mark-slot-claims t) (mark-slot-at t) mark-slot.Post
@@ -284,7 +284,7 @@ pub +mark-cell+mark-slot-spec : {M : Type 1} → statement M
 +mark-cell+mark-slot-spec =
     close μ-mark-cell μ-mark-slot
     (λ t. mark-cell-lts.spec (mark-cell-claims t) (mark-cell-at t) mark-cell.Post mark-cell-Inv-loop mark-cell-μ-loop
-    (mark-cell-set-mark-requires t)
+    (mark-cell-set-marked-requires t)
     (mark-cell-loop-holds t)
     (mark-cell-of-requires t)
     (mark-cell-enum-known-slot t)
