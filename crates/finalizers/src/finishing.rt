@@ -113,6 +113,7 @@ pub fn finish(
     let RootNumber::Is(running) = running_root(control) else {
         return refuse(IDLE);
     };
+    // While a root is running the queue's head names a cell, so that the check always passes.
     let first = queue[0];
     let CellNumber::Is(head) = Cell::of(first as usize - 1, flags.len()) else {
         return refuse(IDLE);
