@@ -4,7 +4,7 @@
 - Each program of tests/ is built with sanitizers against the proved archive and run.
 - The header by itself is valid C and C++, and names each refusal of its list and no other number; the archive has
   nothing that a call could write and another call read.
-- examples/host.c, as C and as C++, prints what examples/host.txt says.
+- examples/host.c, as C and as C++, prints what examples/host.txt says, with the header's version for @VERSION@.
 - `make install` into an empty folder gives a package of the header's version that the example builds with, by
   pkg-config alone; `make uninstall` leaves no file there.
 - `make` lists every target. `make run` writes what the program writes, and beside it one line for each crate; a crate

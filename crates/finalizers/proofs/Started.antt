@@ -1,35 +1,27 @@
 -- What START's code writes and answers is what START does; the count of the queue's head can rise.
 -- Assumes nothing.
-use Prim.Native.Nat.{ℕ, suc, _+_, _-_, _≤_}
+use Prim.Native.Nat.{ℕ, _+_, _-_, _≤_}
 use native.Mathlib.Numerals.{add-one}
 use native.Mathlib.Omega.{arith}
 use mathlib.Core.List.{List}
 use mathlib.Core.Path.{_≡_, refl, ap, _∙_}
 use lib.ListN.{set}
-use Rattle.rules.specs.Heap.{Heap, tables, queued, kindOf, queueAt, Used, setRoot, setRunning}
+use Rattle.rules.specs.Heap.{Heap, tables, queued, kindOf, queueAt, setRoot, setRunning}
 use Rattle.rules.specs.Sound.{Ready}
 use Rattle.rules.specs.Release.{raise, incref}
 use Rattle.rules.specs.Refusals.Call.{START}
 use Rattle.rules.specs.Calls.{answers, done, startRun, act}
-use Rattle.laws.specs.Lists.Tables.{inside}
-use Rattle.laws.specs.Sound.Facts.{ready-facts, largest-count}
+use Rattle.laws.specs.Sound.Facts.{ready-facts}
 use Rattle.laws.specs.Calls.Admission.{tables-eq}
 use Rattle.laws.specs.Calls.Finish.{head-object}
 use Rattle.release.specs.Release.{Raisable}
-
--- a reference to a used cell can be counted once more
-pub used-raisable : {h : Heap} (r : ℕ) → Ready h → ((c : ℕ) → r ≡ suc c → Used h c) → Raisable (h .count) r
-used-raisable {h} r ok used =
-    record {
-      range = λ c e. omega (arith, inside (h .kind) c (used c e), ok .sized .count);
-      fits16 = λ c e. omega (arith, largest-count ok c);
-    }
+use Rattle.release.proofs.Writing.{raisable}
 
 module _ (h : Heap) where
   -- the queue's head
   pub head-raisable : Ready h → 1 ≤ queued h → Raisable (h .count) (queueAt h 0)
   head-raisable ok some =
-      used-raisable (queueAt h 0) ok (λ c e.
+      raisable h (queueAt h 0) (ready-facts ok) (λ c e.
       let same : queueAt h 0 - 1 ≡ c = omega arith in omega (arith, head-object h (ready-facts ok) some, ap (kindOf h) same))
 
   module _ (r : ℕ) where

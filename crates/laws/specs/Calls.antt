@@ -13,3 +13,4 @@ pub mod Start
 pub mod Finish
 pub mod Outcome
 pub mod Done
+pub mod Asked

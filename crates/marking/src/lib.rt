@@ -43,7 +43,8 @@ fn set_marked(marks: &mut [u8], cell: Cell)
     requires { ⌜ cell .0 < length (now marks) ⌝ }
     ensures { λ _. ⌜ now (marks .exit) ≡ set (now (marks .entry)) (cell .0) 1 ⌝ }
 {
-    marks[cell.index()] = MARKED;
+    let c = cell.index();
+    marks[c] = MARKED;
 }
 
 // Does a reference name a cell that is not marked? A noted cell is not: met with depth left it is marked at once.

@@ -6,7 +6,7 @@ use Rattle.csv.specs.declared.scan.Record.{Record}
 use Rattle.csv.specs.declared.scan.Scan.{Scan}
 use Rattle.rules.specs.Heap.{Heap}
 use Rattle.rules.specs.Sound.{Ready}
-use Rattle.steps.proofs.Asked.{obey-ready}
+use Rattle.laws.specs.Demand.Step.{obey-ready}
 use Rattle.session.specs.Pieces.{Took}
 use Rattle.session.specs.Session.{askedOf, lineFor, afterLine, session, afterAll}
 

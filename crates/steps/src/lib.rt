@@ -1,4 +1,4 @@
-// The call that four numbers name, on a sound heap: what a line of the program is, and whatever else names calls by numbers.
+// The call that four numbers name, on a sound heap.
 ghost use mathlib.Core.Path.{_≡_};
 ghost use Rattle.rules.specs.Heap.{tables};
 ghost use Rattle.rules.specs.Sound.{Ready};

@@ -146,7 +146,7 @@ fresh-ready n l m =
       };
     }
 
--- ---- an outer function
+-- ---- an entry for C
 
 -- `admit` answered a refusal, which the call answers
 pub outer-refused : {h : Heap} {call : Call} {why : ℕ} {a : Answer} → isFresh call ≡ false → why ≡ admission h → why ≢ 0 → a ≡ answers why 0 0 0

@@ -15,6 +15,8 @@ use Rattle.rules.specs.Sound.{Ready}
 use Rattle.rules.specs.Refusals.{Call, isFresh, refusalSound}
 use Rattle.rules.specs.Refusals.Call.{FRESH, NEW, CLEAR, COPY, LOAD, STORE, COLLECT, START, FINISH}
 use Rattle.rules.specs.Calls.{Result, step, refuse, done}
+use Rattle.rules.specs.Asked.{Asked, obey}
+use Rattle.rules.specs.Asked.Asked.{call as asks, LINE}
 use Rattle.rules.specs.Numbers.{freedCells, leaving, TrueNumbers}
 use Rattle.rules.specs.Demand3.{stood}
 use Rattle.laws.specs.Lists.Tests.{none-of, clash, and-left, and-right}
@@ -123,6 +125,12 @@ module _ (h : Heap) (s : SoundBut h []) where
 -- Demand 2: "From a sound heap it leaves a sound one."
 pub sound-step : (h : Heap) → Ready h → (call : Call) → Ready (step h call .heap)
 sound-step h r call = facts-ready (good-step h (ready-facts r) call .sound)
+
+-- so does whatever four numbers ask for
+pub obey-ready : (h : Heap) → Ready h → (q : Asked) → Ready (obey h q .heap)
+unfolding obey refuse
+obey-ready h ok (asks c) = sound-step h ok c
+obey-ready h ok LINE = ok
 
 -- The numbers that each of the eight calls answers are true of the tables.
 pub true-numbers : (h : Heap) → Ready h → (call : Call) → isFresh call ≡ false → TrueNumbers call h (step h call .heap) (step h call .answer)

@@ -2,7 +2,7 @@
 use mathlib.Core.Path.{sym}
 use mathlib.Core.Logic.{⊎-elim}
 use Rattle.rules.specs.Asked.{uses}
-use Rattle.steps.proofs.Asked.{uses-three}
+use Rattle.laws.specs.Calls.Asked.{uses-three}
 use Rattle.steps.proofs.arguments.Statement.{statement}
 use Rattle.steps.proofs.arguments.Tie as tie
 

@@ -3,7 +3,7 @@
 use mathlib.Core.Logic.{⊎-elim}
 use mathlib.Core.Path.{refl}
 use Rattle.rules.specs.Asked.{callNumbered}
-use Rattle.steps.proofs.Asked.{numbered-other, obeyed-call, obeyed-line}
+use Rattle.laws.specs.Calls.Asked.{numbered-other, obeyed-call, obeyed-line}
 use Rattle.steps.proofs.numbered.Statement.{statement}
 use Rattle.steps.proofs.numbered.Tie as tie
 

@@ -7,12 +7,10 @@ use mathlib.Core.Bool.{true, false}
 use lib.ListN.{List·getD-eq-default}
 use Rattle.rules.specs.declared.Answer.{Answer}
 use Rattle.rules.specs.Heap.{Heap}
-use Rattle.rules.specs.Sound.{Ready}
 use Rattle.rules.specs.Refusals.{Call}
 use Rattle.rules.specs.Calls.{Did, answers, refuse}
 use Rattle.rules.specs.Asked.{Asked, uses, unusedZero, callsByNumber, callNumbered, callOf, obey, Obeyed}
 use Rattle.rules.specs.Asked.Asked.{call, LINE}
-use Rattle.laws.specs.Demand.Step.{sound-step}
 
 pub uses-three : (n : ℕ) → ((n ≡ 6) ⊎ (n ≡ 8) → ⊥) → ((n ≡ 2) ⊎ (n ≡ 7) → ⊥) → (n ≡ 3 → ⊥) → uses n ≡ 3
 unfolding uses
@@ -58,9 +56,3 @@ obeyed-call h k q c a e d = rw e (record { heap = d .heap; answered = d .answere
 pub obeyed-line : (h : Heap) (q : Asked) (a : Answer) → q ≡ LINE → a ≡ answers 11 0 0 0 → Obeyed q h h a
 unfolding obey refuse
 obeyed-line h q a e w = rw e (record { heap = refl; answered = w })
-
--- a sound heap stays sound
-pub obey-ready : (h : Heap) → Ready h → (q : Asked) → Ready (obey h q .heap)
-unfolding obey refuse
-obey-ready h ok (call c) = sound-step h ok c
-obey-ready h ok LINE = ok
