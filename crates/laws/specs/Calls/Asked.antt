@@ -44,7 +44,7 @@ from-five n a b c d e = omega arith
 from-nine : (n : ℕ) → 5 ≤ n → (n ≡ 5 → ⊥) → (n ≡ 6 → ⊥) → (n ≡ 7 → ⊥) → (n ≡ 8 → ⊥) → 9 ≤ n
 from-nine n h a b c d = omega arith
 
--- none of the calls' numbers, in the order of the `match`
+-- none of the numbers of calls, in their order and 0 last
 pub numbered-other : (n x y z : ℕ) → (n ≡ 1 → ⊥) → (n ≡ 2 → ⊥) → (n ≡ 3 → ⊥) → (n ≡ 4 → ⊥) → (n ≡ 5 → ⊥) → (n ≡ 6 → ⊥) → (n ≡ 7 → ⊥) → (n ≡ 8 → ⊥) → (n ≡ 0 → ⊥) → callNumbered n x y z ≡ LINE
 numbered-other n x y z a b c d e f g h i = none-numbered n x y z (from-nine n (from-five n i a b c d) e f g h)
 
