@@ -20,6 +20,7 @@ pub fn object_of(kind: &[u16], roots: &[u16], holder: Root) -> Object
     if r == 0 {
         return Object::Refused(EMPTY);
     }
+    // What a root holds is one of the cells, so that the check always passes.
     let c = r as usize - 1;
     let CellNumber::Is(cell) = Cell::of(c, kind.len()) else {
         return Object::Refused(KIND);
