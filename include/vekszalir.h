@@ -15,9 +15,9 @@
  *
  * A reference is 0 for empty, or the cell's number plus 1.
  *
- * What you owe: the seven tables don't overlap, they are valid for their lengths (a length of 0 may come with
- * a null pointer), and nobody else writes them during a call. Everything else is the heap's business: any
- * lengths, any contents and any numbers are answered, with a refusal where something is wrong.
+ * What you owe: what you lend to a call, tables and bytes, does not overlap, is valid for its length (a length of 0
+ * may come with a null pointer), and is written by nobody else during the call. Everything else is the heap's
+ * business: any lengths, any contents and any numbers are answered, with a refusal where something is wrong.
  *
  * The library keeps no state of its own, so heaps of different threads don't meet: two threads may each make calls
  * on a heap of their own at the same time. One heap is for one call at a time.
@@ -44,7 +44,7 @@
 extern "C" {
 #endif
 
-#define VEK_VERSION "1.0.0"
+#define VEK_VERSION "1.1.0"
 
 /* Limits. */
 #define VEK_CELLS_MAX 1024
@@ -75,6 +75,7 @@ extern "C" {
 #define VEK_BUSY 8     /* vek_start while a finalizer is running */
 #define VEK_NONE 9     /* vek_start with an empty queue */
 #define VEK_IDLE 10    /* vek_finish with no finalizer running */
+#define VEK_LINE 11    /* a line that names no call; only answers to lines say so */
 
 typedef struct {
     uint16_t refused, freed, queued, cell;
@@ -95,6 +96,7 @@ static inline const char *vek_refusal_name(uint16_t refused)
     case VEK_BUSY: return "BUSY";
     case VEK_NONE: return "NONE";
     case VEK_IDLE: return "IDLE";
+    case VEK_LINE: return "LINE";
     default: return "unknown";
     }
 }
@@ -153,6 +155,48 @@ vek_answer vek_start(VEK_TABLES, size_t root);
 /* The finalizer has run: the head leaves the queue and is finalized, and the running root is emptied.
    Refused: SIZE, DAMAGED, IDLE. */
 vek_answer vek_finish(VEK_TABLES);
+
+/* Calls as lines of text, in the bits in which they arrive.
+
+   A line is four decimal numbers with commas between them, 1 to 5 digits each and at most 65,535: the call's number,
+   1 vek_new to 8 vek_finish in the order above, then its arguments, unused ones 0. CR LF ends a line, and at the end
+   of the input it may be missing. Each line is answered by a line: the call's number, refused, freed, queued, cell.
+   Any other line, one over 64 bytes among them, does nothing and is answered 0,11,0,0,0. On tables that don't fit, or
+   that are damaged, each line that names a call is refused as the call itself would be.
+
+   Of a line that has not ended yet a reader holds a few numbers, however long it is. A reader of all zeros holds
+   nothing. What its numbers mean is the library's own business, and any numbers are answered.
+
+       vek_reader reader = {0};
+       while (bytes come) {
+           vek_progress p = vek_take(VEK_LEND(shop), reader, bytes, bytes_len, out, sizeof out);
+           reader = p.reader;
+           write p.written bytes of out; hand in again, by and by, the bytes after the first p.taken
+       }
+       vek_progress p = vek_end(VEK_LEND(shop), reader, out, sizeof out);
+
+   However the bytes are cut, what is written in all is the answer to the lines of the whole. */
+typedef struct {
+    uint16_t cr, field, digits, a, b, c, d;
+} vek_reader;
+
+typedef struct {
+    vek_reader reader;
+    size_t taken, written;
+} vek_progress;
+
+/* The longest line of answer, with its CR LF. */
+#define VEK_ANSWER_LEN 31
+
+/* Takes bytes one by one while `out` has room for an answer, VEK_ANSWER_LEN bytes, behind what is written, and
+   answers each line that ends. Says the reader to go on with, how many bytes were taken and how many were written;
+   the bytes of `out` behind them stay as they were. With that room and a byte to take, at least one is taken. */
+vek_progress vek_take(VEK_TABLES, vek_reader reader, const uint8_t *bytes, size_t bytes_len, uint8_t *out, size_t out_len);
+
+/* The input has ended: a line that is still held is answered, and the reader that comes back holds nothing. Where
+   there is a line to answer and no room for VEK_ANSWER_LEN bytes, nothing is done, and the reader comes back as it
+   was. `taken` is 0. */
+vek_progress vek_end(VEK_TABLES, vek_reader reader, uint8_t *out, size_t out_len);
 
 #ifdef __cplusplus
 }
