@@ -1,9 +1,12 @@
+pub mod Meaning
 pub mod Numbers
 pub mod Parts
 pub mod Taking
 pub mod Start
 pub mod Feeding
 pub mod Whole
+pub mod Cases
+pub mod Long
 pub mod Written
 pub mod Decimal
 pub mod Spelled

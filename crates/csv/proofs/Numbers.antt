@@ -8,7 +8,7 @@ use lib.Dec.{leb, ltb}
 use lib.ListN.{length}
 use borrow.Author.Tests.{ltb-true, ltb-false, leb-true, leb-false, le-leb, lt-leb}
 use Rattle.csv.specs.Lines.{all, isDigit, valueFrom, isNumber}
-use Rattle.csv.specs.Meaning.{grows}
+use Rattle.csv.proofs.Meaning.{grows}
 
 -- further digits make a number no smaller
 pub value-grows : (n : ℕ) (f : List ℕ) → n ≤ valueFrom n f

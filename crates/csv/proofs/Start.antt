@@ -1,4 +1,4 @@
--- From the start, the meaning of a scan is what the input says. Assumes nothing.
+-- From the start, the meaning of a reader is what the input says. Assumes nothing.
 use Prim.Native.Nat.{ℕ, suc, _+_}
 use native.Mathlib.Omega.{arith}
 use mathlib.Core.Path.{_≡_, refl}
@@ -7,10 +7,11 @@ use mathlib.Core.Bool.{and-assoc}
 use lib.ListN.{length}
 use borrow.Author.Tests.{ne-eqb}
 use Rattle.csv.specs.Lines.{all, linesOf, fieldsOf, recordOf, recordOfFields, recordsOf}
-use Rattle.csv.specs.Meaning.{recordFrom, closing, resumed, meaning, scanStart}
+use Rattle.csv.specs.Reading.{readerStart}
+use Rattle.csv.proofs.Meaning.{recordFrom, closing, resumed, meaning}
 use Rattle.csv.proofs.Numbers.{number-grows}
 
-start-record : (fs : List (List ℕ)) → recordFrom scanStart fs ≡ recordOfFields fs
+start-record : (fs : List (List ℕ)) → recordFrom readerStart fs ≡ recordOfFields fs
 unfolding recordFrom recordOfFields all
 start-record [] = refl
 start-record (f ∷ []) = refl
@@ -22,11 +23,11 @@ start-record (f ∷ (g ∷ (h ∷ (k ∷ [])))) =
 start-record (f ∷ (g ∷ (h ∷ (k ∷ (m ∷ fs))))) =
     rw (ne-eqb (0 + suc (suc (suc (suc (length fs))))) 3 (λ e. omega arith), ne-eqb (suc (suc (suc (suc (suc (length fs)))))) 4 (λ e. omega arith))
 
-pub start-resumed : (ls : List (List ℕ)) → resumed scanStart ls ≡ map recordOf ls
+pub start-resumed : (ls : List (List ℕ)) → resumed readerStart ls ≡ map recordOf ls
 unfolding resumed closing recordOf
 start-resumed [] = refl
 start-resumed (l ∷ ls) = rw (start-record (fieldsOf l))
 
-pub from-start : (input : List ℕ) → meaning scanStart input ≡ recordsOf input
+pub from-start : (input : List ℕ) → meaning readerStart input ≡ recordsOf input
 unfolding meaning recordsOf
 from-start input = start-resumed (linesOf input)

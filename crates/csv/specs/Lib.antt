@@ -1,5 +1,4 @@
 pub mod Lines
-pub mod Meaning
-pub mod Feeding
+pub mod Reading
 pub mod Decimal
 pub mod Written

@@ -5,8 +5,8 @@ use mathlib.Core.List.{List, [], _∷_, map}
 use mathlib.Core.Bool.{Bool, true, _&&_, cond}
 use lib.Dec.{eqb, leb}
 use lib.ListN.{length, getD}
-use Rattle.csv.specs.declared.scan.Record.{Record}
-use Rattle.csv.specs.declared.scan.Record.the-variants.{Numbers, Malformed}
+use Rattle.csv.specs.declared.reader.Record.{Record}
+use Rattle.csv.specs.declared.reader.Record.the-variants.{Numbers, Malformed}
 
 -- does every entry pass
 unfoldable pub all {ℓ} : {A : Type ℓ} → (A → Bool) → List A → Bool

@@ -1,10 +1,7 @@
-// Reading lines of four numbers, a byte at a time. What is kept is a few numbers, however long a line is.
+// Reading lines of four numbers, a byte at a time. What is kept is seven numbers, however long a line is.
 ghost use mathlib.Core.Path.{_≡_};
-ghost use mathlib.Core.Bool.{false};
-ghost use mathlib.Core.List.{[], _∷_};
 ghost use Prim.Native.Nat.{_≤_};
-ghost use Rattle.csv.specs.Meaning.{meaning, scanStart, recordFrom};
-ghost use Rattle.csv.specs.Feeding.{atEnd, Fed, Takes};
+ghost use Rattle.csv.specs.Reading.{readerStart, skipping, comma as afterComma, digit as afterDigit, inLine, plain, recordSoFar, fed, closed};
 
 // What a line says.
 pub enum Record {
@@ -13,20 +10,20 @@ pub enum Record {
 }
 
 // The line so far: the fields that are finished, then the digits and the value of the next one. The last four values are kept, d the latest.
-// Four fields finished stand for a line that is malformed already. A CR is not part of the line until the next byte is known.
-pub struct Scan {
-    cr: bool,
-    field: u16,
-    digits: u16,
-    a: u16,
-    b: u16,
-    c: u16,
-    d: u16,
+// A CR is not part of the line until the next byte is known: cr is 0 if none is held back.
+pub struct Reader {
+    pub cr: u16,
+    pub field: u16,
+    pub digits: u16,
+    pub a: u16,
+    pub b: u16,
+    pub c: u16,
+    pub d: u16,
 }
 
-// What a byte gives: a scan to go on with, or a finished line, after which the next begins.
+// What a byte gives: a reader to go on with, or a finished line, after which the next begins.
 pub enum Step {
-    More(Scan),
+    More(Reader),
     Line(Record),
 }
 
@@ -37,11 +34,11 @@ pub enum Last {
 }
 
 // Before any input.
-pub fn scan_start() -> Scan
-    ensures { λ r. ⌜ r ≡ scanStart ⌝ }
+pub fn start() -> Reader
+    ensures { λ r. ⌜ r ≡ readerStart ⌝ }
 {
-    Scan {
-        cr: false,
+    Reader {
+        cr: 0,
         field: 0,
         digits: 0,
         a: 0,
@@ -52,23 +49,23 @@ pub fn scan_start() -> Scan
 }
 
 // The next byte of the input.
-pub fn feed(s: Scan, byte: u8) -> Step
-    ensures { λ r. ⌜ Fed s byte r ⌝ }
+pub fn feed(s: Reader, byte: u8) -> Step
+    ensures { λ r. ⌜ r ≡ fed s byte ⌝ }
 {
-    if s.cr {
-        if byte == 10 {
-            return Step::Line(said(s));
-        }
-        return Step::More(next(malformed(), byte));
+    if s.cr == 0 {
+        return Step::More(next(s, byte));
     }
-    Step::More(next(s, byte))
+    if byte == 10 {
+        return Step::Line(said(s));
+    }
+    Step::More(next(skip(), byte))
 }
 
 // The end of the input closes an unfinished line; a CR at its end is part of it.
-pub fn scan_end(s: Scan) -> Last
-    ensures { λ r. ⌜ meaning s [] ≡ atEnd r ⌝ }
+pub fn end(s: Reader) -> Last
+    ensures { λ r. ⌜ r ≡ closed s ⌝ }
 {
-    if s.cr {
+    if s.cr != 0 {
         return Last::Final(Record::Malformed);
     }
     if s.field == 0 {
@@ -80,8 +77,8 @@ pub fn scan_end(s: Scan) -> Last
 }
 
 // What the line says if it ends here.
-fn said(s: Scan) -> Record
-    ensures { λ r. ⌜ r ≡ recordFrom s ([] ∷ []) ⌝ }
+fn said(s: Reader) -> Record
+    ensures { λ r. ⌜ r ≡ recordSoFar s ⌝ }
 {
     if s.field != 3 {
         return Record::Malformed;
@@ -92,14 +89,15 @@ fn said(s: Scan) -> Record
     Record::Numbers(s.a, s.b, s.c, s.d)
 }
 
-// A line that no further byte can mend.
-fn malformed() -> Scan
-    ensures { λ r. ⌜ (r .field ≡ 4) × (r .cr ≡ false) ⌝ }
+// A line that no further byte can mend: it is skipped to its end, and nothing more of it is kept.
+// Neither a comma nor a digit finds room in it, so that no byte asks whether a line is skipped.
+fn skip() -> Reader
+    ensures { λ r. ⌜ r ≡ skipping ⌝ }
 {
-    Scan {
-        cr: false,
+    Reader {
+        cr: 0,
         field: 4,
-        digits: 0,
+        digits: 5,
         a: 0,
         b: 0,
         c: 0,
@@ -108,47 +106,46 @@ fn malformed() -> Scan
 }
 
 // A byte with no CR before it.
-fn next(s: Scan, byte: u8) -> Scan
-    requires { ⌜ s .cr ≡ false ⌝ }
-    ensures { λ r. ⌜ Fed s byte (Step.More r) ⌝ }
+fn next(s: Reader, byte: u8) -> Reader
+    ensures { λ r. ⌜ r ≡ plain s byte ⌝ }
 {
     if byte == 13 {
         let mut t = s;
-        t.cr = true;
+        t.cr = 1;
         return t;
     }
     take(s, byte)
 }
 
 // A byte of a line.
-fn take(s: Scan, byte: u8) -> Scan
-    ensures { λ r. ⌜ Takes s byte r ⌝ }
+fn take(s: Reader, byte: u8) -> Reader
+    ensures { λ r. ⌜ r ≡ inLine s byte ⌝ }
 {
     if byte == 44 {
         return comma(s);
     }
     if byte < 48 {
-        return malformed();
+        return skip();
     }
     if byte > 57 {
-        return malformed();
+        return skip();
     }
     digit(s, byte)
 }
 
 // A comma ends a field: at most the third, and none that is empty.
-fn comma(s: Scan) -> Scan
-    ensures { λ r. ⌜ Takes s 44 r ⌝ }
+fn comma(s: Reader) -> Reader
+    ensures { λ r. ⌜ r ≡ afterComma s ⌝ }
 {
     let field = s.field;
     if field >= 3 {
-        return malformed();
+        return skip();
     }
     if s.digits == 0 {
-        return malformed();
+        return skip();
     }
-    Scan {
-        cr: false,
+    Reader {
+        cr: 0,
         field: field + 1,
         digits: 0,
         a: s.b,
@@ -159,20 +156,20 @@ fn comma(s: Scan) -> Scan
 }
 
 // A digit: at most the fifth of its field, with a value of at most 65,535.
-fn digit(s: Scan, byte: u8) -> Scan
+fn digit(s: Reader, byte: u8) -> Reader
     requires { ⌜ (48 ≤ byte) × (byte ≤ 57) ⌝ }
-    ensures { λ r. ⌜ Takes s byte r ⌝ }
+    ensures { λ r. ⌜ r ≡ afterDigit s byte ⌝ }
 {
     let digits = s.digits;
     if digits >= 5 {
-        return malformed();
+        return skip();
     }
     let value = s.d as u32 * 10 + (byte - 48) as u32;
     if value > 65535 {
-        return malformed();
+        return skip();
     }
-    Scan {
-        cr: false,
+    Reader {
+        cr: 0,
         field: s.field,
         digits: digits + 1,
         a: s.a,

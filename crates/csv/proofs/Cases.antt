@@ -1,0 +1,1 @@
+-- What the rules make of a byte, case by case. Assumes nothing.

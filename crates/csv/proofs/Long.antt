@@ -1,0 +1,1 @@
+-- Lines over 64 bytes. Assumes nothing.
