@@ -1,23 +1,26 @@
 -- Text put into a buffer: a byte, and a text after a text. Assumes nothing.
-use Prim.Native.Nat.{ℕ, _+_, _<_}
+use Prim.Native.Nat.{ℕ, suc, _+_}
 use native.Mathlib.Omega.{arith}
-use native.Mathlib.Numerals.{add-one}
-use mathlib.Core.Path.{refl, _∙_, ap}
-use mathlib.Core.List.{List, [], _∷_, _++_, append-assoc}
-use lib.ListN.{length, take, set, length-append, length-set}
-use lib.Seq.{take-suc-set}
+use mathlib.Core.Path.{_≡_, refl, sym, _∙_, ap}
+use mathlib.Core.List.{List, [], _∷_, _++_}
+use lib.ListN.{length, set, length-append}
+use lib.Seq.{sets}
 use Rattle.csv.specs.Written.{Wrote}
 
-pub wrote-byte : (l : List ℕ) (at b : ℕ) → at < length l → Wrote l at (b ∷ []) (set l at b) (at + 1)
-wrote-byte l at b h = record {
-  end = refl;
-  size = length-set l at b;
-  bytes = rw add-one (take-suc-set l at b h);
-}
+sets-append : (x y l : List ℕ) (at : ℕ) → sets l at (x ++ y) ≡ sets (sets l at x) (at + length x) y
+sets-append [] y l at = let same : at + 0 ≡ at = omega arith in rw same refl
+sets-append (b ∷ x) y l at =
+    let next : at + length (b ∷ x) ≡ suc at + length x = omega arith in
+    rw next (sets-append x y (set l at b) (suc at))
+
+pub wrote-nothing : (l : List ℕ) (at : ℕ) → Wrote l at [] l at
+wrote-nothing l at = record { end = omega arith; bytes = refl }
+
+pub wrote-byte : (l : List ℕ) (at b : ℕ) → Wrote l at (b ∷ []) (set l at b) (at + 1)
+wrote-byte l at b = record { end = refl; bytes = refl }
 
 pub wrote-more : (l x m y n : List ℕ) (at r q : ℕ) → Wrote l at x m r → Wrote m r y n q → Wrote l at (x ++ y) n q
 wrote-more l x m y n at r q a b = record {
   end = omega (arith, length-append x y, a .end, b .end);
-  size = b .size ∙ a .size;
-  bytes = b .bytes ∙ ap (λ t. t ++ y) (a .bytes) ∙ append-assoc (take at l) x y;
+  bytes = b .bytes ∙ ap (λ (k : ℕ). sets m k y) (a .end) ∙ ap (λ (t : List ℕ). sets t (at + length x) y) (a .bytes) ∙ sym (sets-append x y l at);
 }

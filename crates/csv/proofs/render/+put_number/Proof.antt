@@ -49,7 +49,7 @@ module _ (t : ℕ) where
         arith,
         length-large (entry .args .n) (c .before .before .before .before .before .if1 .left),
         c .before .before .before .put-number .ensures .end,
-        c .before .before .before .put-number .ensures .size,
+        c .before .before .before .put-number .kept .0,
         entry .pre .1,
       )
 

@@ -13,7 +13,7 @@ put-byte-requires : tie.Need-put-byte-requires
 put-byte-requires c κs =
     let entry = c .before .before .before .before .before .before in
     let put-number = c .before .before .before .put-number in
-    omega (arith, decimal-length (entry .args .n) (omega arith), (put-number .ensures .end), (put-number .ensures .size), (entry .pre))
+    omega (arith, decimal-length (entry .args .n) (omega arith), (put-number .ensures .end), (put-number .kept .0), (entry .pre))
 
 same-length : tie.Need-same-length
 same-length c = search needs

@@ -13,14 +13,14 @@ put-byte-requires : tie.Need-put-byte-requires
 put-byte-requires c κs =
     let entry = c .before .before .before .before .before .before in
     let put-number = c .before .before .before .put-number in
-    omega (arith, decimal-length (entry .args .n) (omega arith), (put-number .ensures .end), (put-number .ensures .size), (entry .pre))
+    omega (arith, decimal-length (entry .args .n) (omega arith), (put-number .ensures .end), (put-number .kept .0), (entry .pre))
 
 put-byte-requires-2 : tie.Need-put-byte-requires-2
 put-byte-requires-2 c κs =
     let entry = c .before .before .before .before .before .before .before .before .before .before in
     let put-number = c .before .before .before .before .before .before .before .put-number in
     let put-byte = c .before .before .before .put-byte in
-    omega (arith, decimal-length (entry .args .n) (omega arith), (put-number .ensures .end), (put-number .ensures .size), (put-byte .ensures .end), (put-byte .ensures .size), (entry .pre))
+    omega (arith, decimal-length (entry .args .n) (omega arith), (put-number .ensures .end), (put-number .kept .0), (put-byte .ensures .end), (put-byte .kept .0), (entry .pre))
 
 same-length : tie.Need-same-length
 same-length c = search needs
