@@ -2,7 +2,7 @@
 -- Assumes nothing: these are definitions.
 use Prim.Native.Nat.{ℕ}
 use mathlib.Core.List.{List, [], _∷_}
-use mathlib.Core.Bool.{Bool, _&&_, _||_, cond}
+use mathlib.Core.Bool.{Bool, true, false, _&&_, _||_, cond}
 use lib.Dec.{eqb, leb}
 use mathlib.Core.Path.{_≡_}
 use lib.ListN.{getD}
@@ -40,6 +40,11 @@ callNumbered n x y z = getD (callsByNumber x y z) n LINE
 
 unfoldable pub callOf : ℕ → ℕ → ℕ → ℕ → Asked
 callOf n x y z = cond (unusedZero (uses n) x y z) (callNumbered n x y z) LINE
+
+-- four numbers name a call
+unfoldable pub isCall : Asked → Bool
+isCall (call c) = true
+isCall LINE = false
 
 -- what is asked for is done; LINE "is refused 11 LINE" "and does nothing"
 unfoldable pub obey : Heap → Asked → Result

@@ -1,16 +1,20 @@
 -- Laws of the call that four numbers name, and of what it does. Assumes nothing.
 use Prim.Native.Nat.{ℕ, zero, suc, _≤_}
 use native.Mathlib.Omega.{arith}
-use mathlib.Core.Path.{_≡_, refl}
-use mathlib.Core.Logic.{_⊎_, inl, inr}
-use mathlib.Core.Bool.{true, false}
+use mathlib.Core.Path.{_≡_, refl, sym, _∙_}
+use mathlib.Core.Logic.{_≢_, _⊎_, inl, inr}
+use mathlib.Core.Bool.{Bool, true, false, cond}
+use lib.Dec.{leb}
 use lib.ListN.{List·getD-eq-default}
+use borrow.Author.Tests.{lt-leb}
 use Rattle.rules.specs.declared.Answer.{Answer}
 use Rattle.rules.specs.Heap.{Heap}
-use Rattle.rules.specs.Refusals.{Call}
+use Rattle.rules.specs.Refusals.{Call, isFresh}
 use Rattle.rules.specs.Calls.{Did, answers, refuse}
-use Rattle.rules.specs.Asked.{Asked, uses, unusedZero, callsByNumber, callNumbered, callOf, obey, Obeyed}
+use Rattle.rules.specs.Asked.{Asked, uses, unusedZero, callsByNumber, callNumbered, callOf, isCall, obey, Obeyed}
 use Rattle.rules.specs.Asked.Asked.{call, LINE}
+use Rattle.laws.specs.Lists.Tests.{clash}
+use Rattle.laws.specs.Calls.Admission.{admission, outer-refused}
 
 pub uses-three : (n : ℕ) → ((n ≡ 6) ⊎ (n ≡ 8) → ⊥) → ((n ≡ 2) ⊎ (n ≡ 7) → ⊥) → (n ≡ 3 → ⊥) → uses n ≡ 3
 unfolding uses
@@ -56,3 +60,62 @@ obeyed-call h k q c a e d = rw e (record { heap = d .heap; answered = d .answere
 pub obeyed-line : (h : Heap) (q : Asked) (a : Answer) → q ≡ LINE → a ≡ answers 11 0 0 0 → Obeyed q h h a
 unfolding obey refuse
 obeyed-line h q a e w = rw e (record { heap = refl; answered = w })
+
+-- ---- whether a call is named
+
+-- a number from 1 to 8 is that of a call
+pub names-call : (n x y z : ℕ) → (n ≡ 0 → ⊥) → leb n 8 ≡ isCall (callNumbered n x y z)
+unfolding callNumbered isCall
+names-call zero x y z h = absurd (h refl)
+names-call (suc zero) x y z h = refl
+names-call (suc (suc zero)) x y z h = refl
+names-call (suc (suc (suc zero))) x y z h = refl
+names-call (suc (suc (suc (suc zero)))) x y z h = refl
+names-call (suc (suc (suc (suc (suc zero))))) x y z h = refl
+names-call (suc (suc (suc (suc (suc (suc zero)))))) x y z h = refl
+names-call (suc (suc (suc (suc (suc (suc (suc zero))))))) x y z h = refl
+names-call (suc (suc (suc (suc (suc (suc (suc (suc zero)))))))) x y z h = refl
+names-call (suc (suc (suc (suc (suc (suc (suc (suc (suc n))))))))) x y z h =
+    lt-leb (suc (suc (suc (suc (suc (suc (suc (suc (suc n))))))))) 8 (omega arith)
+
+-- ---- FRESH is asked for by no four numbers
+
+unfoldable pub asksFresh : Asked → Bool
+asksFresh (call c) = isFresh c
+asksFresh LINE = false
+
+numbered-never-fresh : (n x y z : ℕ) → asksFresh (callNumbered n x y z) ≡ false
+unfolding callNumbered asksFresh isFresh
+numbered-never-fresh zero x y z = refl
+numbered-never-fresh (suc zero) x y z = refl
+numbered-never-fresh (suc (suc zero)) x y z = refl
+numbered-never-fresh (suc (suc (suc zero))) x y z = refl
+numbered-never-fresh (suc (suc (suc (suc zero)))) x y z = refl
+numbered-never-fresh (suc (suc (suc (suc (suc zero))))) x y z = refl
+numbered-never-fresh (suc (suc (suc (suc (suc (suc zero)))))) x y z = refl
+numbered-never-fresh (suc (suc (suc (suc (suc (suc (suc zero))))))) x y z = refl
+numbered-never-fresh (suc (suc (suc (suc (suc (suc (suc (suc zero)))))))) x y z = refl
+numbered-never-fresh (suc (suc (suc (suc (suc (suc (suc (suc (suc n))))))))) x y z = refl
+
+pub never-fresh : (n x y z : ℕ) → asksFresh (callOf n x y z) ≡ false
+unfolding callOf
+never-fresh n x y z = go (unusedZero (uses n) x y z)
+  where
+    go : (b : Bool) → asksFresh (cond b (callNumbered n x y z) LINE) ≡ false
+    go true = numbered-never-fresh n x y z
+    go false = unfold asksFresh in refl
+
+-- ---- on tables that are not admitted
+
+-- a call is refused by the number that `admission` gives
+pub obeyed-refused : (q : Asked) {h : Heap} {why : ℕ} {a : Answer} → asksFresh q ≡ false → isCall q ≡ true → why ≡ admission h → why ≢ 0 → a ≡ answers why 0 0 0
+    → Obeyed q h h a
+unfolding asksFresh isCall
+obeyed-refused (call c) {h} {why} {a} f n e some w = obeyed-call h h (call c) c a refl (outer-refused f e some w)
+obeyed-refused LINE f n e some w = absurd (clash n refl)
+
+-- and what is no call stays LINE
+pub no-call : (q : Asked) → isCall q ≡ false → q ≡ LINE
+unfolding isCall
+no-call (call c) e = absurd (clash refl e)
+no-call LINE e = refl

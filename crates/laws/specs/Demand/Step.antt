@@ -5,7 +5,7 @@ use native.Mathlib.Omega.{arith}
 use mathlib.Core.List.{[], _++_, map, append-nil}
 use mathlib.Core.Bool.{true, false, not, _&&_}
 use mathlib.Core.Path.{_≡_, refl, sym, _∙_, ap}
-use mathlib.Core.Logic.{_⊎_, inl, inr, ⊎-elim}
+use mathlib.Core.Logic.{_≢_, _⊎_, inl, inr, ⊎-elim}
 use lib.ListN.{length, drop}
 use lib.Dec.{eqb}
 use borrow.Author.Tests.{not-true}
@@ -24,9 +24,10 @@ use Rattle.laws.specs.Lists.Occ.{occ-empty}
 use Rattle.laws.specs.Lists.Select.{select-only}
 use Rattle.laws.specs.Lists.Tables.{getD-zeros}
 use Rattle.laws.specs.Sound.But.{SoundBut}
-use Rattle.laws.specs.Sound.Facts.{ready-facts, facts-ready}
+use Rattle.laws.specs.Sound.Facts.{ready-tests, ready-facts, facts-ready}
 use Rattle.laws.specs.Reach.Safe.{Kept}
-use Rattle.laws.specs.Calls.Admission.{step-refused, step-done, step-fresh, fresh-ready, ready-refused}
+use Rattle.laws.specs.Calls.Admission.{admission, admission-sound, not-admitted, ready, step-refused, step-done, step-fresh, fresh-ready, ready-refused}
+use Rattle.laws.specs.Calls.Asked.{asksFresh}
 use Rattle.laws.specs.Calls.Outcome.{outcome-freed}
 use Rattle.laws.specs.Calls.Done.{Performed, performed}
 
@@ -131,6 +132,20 @@ pub obey-ready : (h : Heap) → Ready h → (q : Asked) → Ready (obey h q .hea
 unfolding obey refuse
 obey-ready h ok (asks c) = sound-step h ok c
 obey-ready h ok LINE = ok
+
+-- whatever four numbers ask for, the tables that it leaves are admitted, or not admitted for the same reason, as those that it found
+pub admission-kept : (h : Heap) (q : Asked) → asksFresh q ≡ false → admission (obey h q .heap) ≡ admission h
+unfolding obey refuse
+admission-kept h LINE f = refl
+admission-kept h (asks c) f = go (admission h) refl
+  where
+    go : (why : ℕ) → admission h ≡ why → admission (step h c .heap) ≡ admission h
+    go zero e =
+        let t = ready-tests (sound-step h (ready h e) c) in
+        admission-sound (step h c .heap) (t .0) (t .1) ∙ sym e
+    go (suc n) e =
+        let some : admission h ≢ 0 = λ z. omega (arith, e, z) in
+        ap (λ (r : Result). admission (r .heap)) (step-refused h c (admission h) (not-admitted h c (unfold asksFresh in f) some) some)
 
 -- The numbers that each of the eight calls answers are true of the tables.
 pub true-numbers : (h : Heap) → Ready h → (call : Call) → isFresh call ≡ false → TrueNumbers call h (step h call .heap) (step h call .answer)
