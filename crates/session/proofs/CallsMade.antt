@@ -4,7 +4,7 @@ use native.Mathlib.Omega.{arith}
 use mathlib.Core.Path.{_≡_, refl, sym, ap, subst⁻¹}
 use mathlib.Core.List.{List, [], _∷_, _++_}
 use Rattle.csv.specs.Lines.{recordsOf}
-use Rattle.csv.specs.declared.scan.Record.{Record}
+use Rattle.csv.specs.declared.reader.Record.{Record}
 use Rattle.rules.specs.Heap.{Heap, fresh, cells}
 use Rattle.rules.specs.Refusals.{Call}
 use Rattle.rules.specs.Refusals.Call.{FRESH}

@@ -1,136 +1,242 @@
--- Laws of pieces: a byte, pieces after pieces, the end. Assumes nothing.
-use Prim.Native.Nat.{ℕ, _+_, _≤_}
+-- Laws of deliveries: bytes taken, one delivery after another, the end. Assumes nothing.
+use Prim.Native.Nat.{ℕ, zero, suc, _+_, _*_, _≤_, _<_}
 use native.Mathlib.Omega.{arith}
 use mathlib.Core.Path.{_≡_, refl, sym, _∙_, ap, subst, subst⁻¹}
 use mathlib.Core.List.{List, [], _∷_, _++_, append-assoc, append-nil}
-use lib.ListN.{length, take, length-append}
-use Rattle.csv.specs.Meaning.{meaning, scanStart}
-use Rattle.csv.specs.Feeding.{given, Fed}
-use Rattle.csv.specs.Written.{Wrote}
-use Rattle.csv.specs.declared.scan.Record.{Record}
-use Rattle.csv.specs.declared.scan.Scan.{Scan}
-use Rattle.csv.specs.declared.scan.Step.the-variants.{More, Line}
-use Rattle.csv.proofs.Start.{from-start}
-use Rattle.csv.proofs.Written.{wrote-more}
+use mathlib.Core.Bool.{Bool, true, false, cond}
+use lib.Dec.{leb}
+use lib.ListN.{length, take, drop, take-append-drop}
+use lib.Seq.{take-append-seam, take-all}
+use borrow.Author.Tests.{leb-true, leb-false, le-leb}
+use Rattle.csv.specs.Reading.{readerStart, fed, closed, given, atEnd, records}
+use Rattle.csv.specs.declared.reader.Record.{Record}
+use Rattle.csv.specs.declared.reader.Reader.{Reader}
+use Rattle.csv.specs.declared.reader.Step.{Step}
+use Rattle.csv.specs.declared.reader.Step.the-variants.{More, Line}
+use Rattle.csv.specs.declared.reader.Last.{Last}
+use Rattle.csv.specs.declared.reader.Last.the-variants.{Nothing, Final}
+use Rattle.csv.proofs.Whole.{reads-all}
 use Rattle.rules.specs.Heap.{Heap}
-use Rattle.session.specs.declared.pieces.Progress.{Progress}
+use Rattle.session.specs.declared.taking.Progress.{Progress}
 use Rattle.session.specs.Session.{lineFor, afterLine, session, afterAll}
-use Rattle.session.specs.Pieces.{Took, Progressed, InputEnded, Delivered, joined, AnyPieces}
-use Rattle.session.specs.Pieces.Delivered.{ended, piece}
+use Rattle.session.specs.Taking.{heapAfter, readerAfter, textFor, Stand, begun, took, takes, ends, Gave}
+use Rattle.session.specs.Deliveries.{Took, Delivered, Undivided, AnyDeliveries, GetsOn}
+use Rattle.session.specs.Deliveries.Delivered.{handed, again, ended}
 use Rattle.session.proofs.Session.{session-append, after-append}
-
--- ---- what is written
-
-wrote-nothing : (out : List ℕ) (at : ℕ) → Wrote out at [] out at
-wrote-nothing out at = record { end = omega arith; size = refl; bytes = sym (append-nil (take at out)) }
-
--- the answer to one line
-wrote-line : (h : Heap) (l : Record) (out end : List ℕ) (at r : ℕ) → Wrote out at (lineFor h l) end r → Wrote out at (session h (l ∷ [])) end r
-unfolding session
-wrote-line h l out end at r w = subst⁻¹ (λ (t : List ℕ). Wrote out at t end r) (append-nil (lineFor h l)) w
 
 -- ---- some input was taken
 
-pub took-none : (s : Scan) (h : Heap) → Took s h [] s h
+pub took-none : (s : Reader) (h : Heap) → Took s h [] s h
 unfolding afterAll
 took-none s h = record { lines = []; read = λ rest. refl; heap = refl }
 
-pub took-more : (s r t : Scan) (p q : List ℕ) (h k m : Heap) → Took s h p r k → Took r k q t m → Took s h (p ++ q) t m
+pub took-more : (s r t : Reader) (p q : List ℕ) (h k m : Heap) → Took s h p r k → Took r k q t m → Took s h (p ++ q) t m
 took-more s r t p q h k m a b = record {
   lines = a .lines ++ b .lines;
   read = λ rest.
-      ap (meaning s) (append-assoc p q rest) ∙ a .read (q ++ rest) ∙ ap (λ x. a .lines ++ x) (b .read rest)
-      ∙ sym (append-assoc (a .lines) (b .lines) (meaning t rest));
+      ap (λ (x : List ℕ). records x s) (append-assoc p q rest) ∙ a .read (q ++ rest) ∙ ap (λ x. a .lines ++ x) (b .read rest)
+      ∙ sym (append-assoc (a .lines) (b .lines) (records rest t));
   heap = b .heap ∙ ap (λ (x : Heap). afterAll x (b .lines)) (a .heap) ∙ sym (after-append h (a .lines) (b .lines));
 }
 
-pub progressed-none : (s : Scan) (out : List ℕ) (at : ℕ) (h : Heap) → Progressed s [] out at h h out (record { scan = s; at = at })
-unfolding session took-none
-progressed-none s out at h = record { took = took-none s h; wrote = wrote-nothing out at; room = omega arith }
+-- ---- the bytes of a delivery
 
-pub progressed-more : (s : Scan) (p q out mid end : List ℕ) (at : ℕ) (h k m : Heap) (r t : Progress)
-    → Progressed s p out at h k mid r → Progressed (r .scan) q mid (r .at) k m end t → Progressed s (p ++ q) out at h m end t
-unfolding took-more
-progressed-more s p q out mid end at h k m r t a b =
-    let first : List Record = a .took .lines in
-    let then : List Record = b .took .lines in
+-- x became y over the first n of the bytes: the lines that ended, and the answers to them
+record Went (x : Stand) (bytes : List ℕ) (y : Stand) : Type 0 where
+  n : ℕ
+  count : y .taken ≡ x .taken + n
+  most : n ≤ length bytes
+  taken : Took (x .reader) (x .heap) (take n bytes) (y .reader) (y .heap)
+  text : y .text ≡ x .text ++ session (x .heap) (taken .lines)
+
+went-nowhere : (x : Stand) (bytes : List ℕ) → Went x bytes x
+unfolding session took-none
+went-nowhere x bytes = record {
+  n = 0;
+  count = omega arith;
+  most = omega arith;
+  taken = took-none (x .reader) (x .heap);
+  text = sym (append-nil (x .text));
+}
+
+-- the line that a byte ends, if it ends one
+unfoldable ending : Step → List Record
+ending (More s) = []
+ending (Line l) = l ∷ []
+
+-- one byte
+byte-read : (step : Step) (after : Reader → List Record) → given step after ≡ ending step ++ after (readerAfter step)
+unfolding given ending readerAfter
+byte-read (More s) after = refl
+byte-read (Line l) after = refl
+
+byte-heap : (h : Heap) (step : Step) → heapAfter h step ≡ afterAll h (ending step)
+unfolding heapAfter ending afterAll
+byte-heap h (More s) = refl
+byte-heap h (Line l) = refl
+
+byte-text : (h : Heap) (step : Step) → textFor h step ≡ session h (ending step)
+unfolding textFor ending session
+byte-text h (More s) = refl
+byte-text h (Line l) = sym (append-nil (lineFor h l))
+
+took-byte : (s : Reader) (h : Heap) (b : ℕ) → Took s h (b ∷ []) (readerAfter (fed s b)) (heapAfter h (fed s b))
+unfolding records
+took-byte s h b = record { lines = ending (fed s b); read = λ rest. byte-read (fed s b) (records rest); heap = byte-heap h (fed s b) }
+
+went-byte : (x y : Stand) (b : ℕ) (rest : List ℕ) → Went (took x (fed (x .reader) b)) rest y → Went x (b ∷ rest) y
+unfolding took took-byte took-more
+went-byte x y b rest w =
+    let step : Step = fed (x .reader) b in
+    let h : Heap = x .heap in
+    let lines : List Record = w .taken .lines in
     record {
-      took = took-more s (r .scan) (t .scan) p q h k m (a .took) (b .took);
-      wrote =
-          subst (λ (x : List ℕ). Wrote out at x end (t .at))
-          (ap (λ (x : Heap). session h first ++ session x then) (a .took .heap) ∙ sym (session-append h first then))
-          (wrote-more _ _ _ _ _ _ _ _ (a .wrote) (b .wrote));
-      room = omega (arith, length-append p q, a .room, b .room);
+      n = suc (w .n);
+      count = omega (arith, w .count);
+      most = omega (arith, w .most);
+      taken = took-more (x .reader) (readerAfter step) (y .reader) (b ∷ []) (take (w .n) rest) h (heapAfter h step) (y .heap) (took-byte (x .reader) h b) (w .taken);
+      text =
+          w .text ∙ append-assoc (x .text) (textFor h step) (session (heapAfter h step) lines)
+          ∙ ap (λ (t : List ℕ). x .text ++ (t ++ session (heapAfter h step) lines)) (byte-text h step)
+          ∙ ap (λ (k : Heap). x .text ++ (session h (ending step) ++ session k lines)) (byte-heap h step)
+          ∙ ap (λ (t : List ℕ). x .text ++ t) (sym (session-append h (ending step) lines));
     }
 
--- a byte that ends no line
-pub progressed-held : (s t : Scan) (b : ℕ) (out : List ℕ) (at : ℕ) (h : Heap) → Fed s b (More t) → Progressed s (b ∷ []) out at h h out (record { scan = t; at = at })
-unfolding given session afterAll
-progressed-held s t b out at h f = record {
-  took = record { lines = []; read = λ rest. f .says rest; heap = refl };
-  wrote = wrote-nothing out at;
-  room = omega arith;
-}
+went : (room : ℕ) (x : Stand) (bytes : List ℕ) → Went x bytes (takes room x bytes)
+unfolding takes
+went room x [] = went-nowhere x []
+went room x (b ∷ rest) = go (leb (length (x .text) + 31) room) (went room (took x (fed (x .reader) b)) rest)
+  where
+    go : (t : Bool) → Went (took x (fed (x .reader) b)) rest (takes room (took x (fed (x .reader) b)) rest)
+        → Went x (b ∷ rest) (cond t (takes room (took x (fed (x .reader) b)) rest) x)
+    go true w = went-byte x (takes room (took x (fed (x .reader) b)) rest) b rest w
+    go false w = went-nowhere x (b ∷ rest)
 
--- a byte that ends a line, which is answered
-pub progressed-line : (s : Scan) (b : ℕ) (l : Record) (out end : List ℕ) (at r : ℕ) (h k : Heap) → Fed s b (Line l) → k ≡ afterLine h l → Wrote out at (lineFor h l) end r → r ≤ at + 31
-    → Progressed s (b ∷ []) out at h k end (record { scan = scanStart; at = r })
-unfolding given afterAll
-progressed-line s b l out end at r h k f e w m = record {
-  took = record { lines = l ∷ []; read = λ rest. f .says rest; heap = e };
-  wrote = wrote-line h l out end at r w;
-  room = omega arith;
-}
+-- ---- what a function gave
 
--- ---- the input ended
-
-pub ended-nothing : (s : Scan) (out : List ℕ) (h : Heap) → meaning s [] ≡ [] → InputEnded s out h h out 0
-unfolding session afterAll
-ended-nothing s out h e = record {
-  heap = sym (ap (afterAll h) e);
-  wrote = subst⁻¹ (λ (l : List Record). Wrote out 0 (session h l) out 0) e (wrote-nothing out 0);
-  room = omega arith;
-}
-
-pub ended-line : (s : Scan) (l : Record) (out end : List ℕ) (r : ℕ) (h k : Heap) → meaning s [] ≡ l ∷ [] → k ≡ afterLine h l → Wrote out 0 (lineFor h l) end r → r ≤ 31 → 31 ≤ length out
-    → InputEnded s out h k end r
-unfolding afterAll
-ended-line s l out end r h k e g w m n = record {
-  heap = g ∙ sym (ap (afterAll h) e);
-  wrote = subst⁻¹ (λ (x : List Record). Wrote out 0 (session h x) end r) e (wrote-line h l out end 0 r w);
-  room = omega (arith, w .size);
-}
+-- what it wrote
+gave-text : {x : Stand} {before after : List ℕ} {k : Heap} {r : Progress} → Gave x before k after r → take (r .written) after ≡ x .text
+gave-text {x} {before} g =
+    rw (g .progress, g .out) (take-append-seam (x .text) (drop (length (x .text)) before))
 
 -- ---- the whole input
 
--- what all pieces gave, from any scan
-record FromScan (s : Scan) (h : Heap) (input w : List ℕ) (m : Heap) : Type 0 where
-  written : w ≡ session h (meaning s input)
-  heap : m ≡ afterAll h (meaning s input)
+-- what all deliveries gave, from any reader
+record From (s : Reader) (h : Heap) (input w : List ℕ) (m : Heap) : Type 0 where
+  written : w ≡ session h (records input s)
+  heap : m ≡ afterAll h (records input s)
 
-delivered-from : {s : Scan} {h m : Heap} {ps : List (List ℕ)} {w : List ℕ} → Delivered s h ps w m → FromScan s h (joined ps) w m
-unfolding joined
-delivered-from (ended before after r c) = record { written = c .wrote .bytes; heap = c .heap }
-delivered-from (piece {s} {h} {k} {m} p before after r {ps} {w} a d) =
-    let g : FromScan (r .scan) k (joined ps) w m = delivered-from d in
-    let lines : List Record = a .took .lines in
-    let rest : List Record = meaning (r .scan) (joined ps) in
+-- some lines, then what is still to come
+from-more : (s t : Reader) (h k m : Heap) (input rest text w : List ℕ) (lines : List Record) → records input s ≡ lines ++ records rest t
+    → text ≡ session h lines → k ≡ afterAll h lines → From t k rest w m → From s h input (text ++ w) m
+from-more s t h k m input rest text w lines e x y f = record {
+  written =
+      ap (λ (z : List ℕ). z ++ w) x
+      ∙ ap (λ (z : List ℕ). session h lines ++ z) (f .written ∙ ap (λ (z : Heap). session z (records rest t)) y)
+      ∙ sym (session-append h lines (records rest t)) ∙ sym (ap (session h) e);
+  heap =
+      f .heap ∙ ap (λ (z : Heap). afterAll z (records rest t)) y ∙ sym (after-append h lines (records rest t)) ∙ sym (ap (afterAll h) e);
+}
+
+-- the end: the line that it answers, if it answers one
+record EndWent (s : Reader) (h : Heap) (y : Stand) : Type 0 where
+  lines : List Record
+  read : records [] s ≡ lines ++ records [] (y .reader)
+  heap : y .heap ≡ afterAll h lines
+  text : y .text ≡ session h lines
+
+end-went : (room : ℕ) (h : Heap) (s : Reader) → EndWent s h (ends room h s (closed s))
+unfolding ends records closed atEnd afterAll session
+end-went room h s = go (closed s) (leb 31 room) refl refl
+  where
+    go : (last : Last) (t : Bool) → closed s ≡ last → leb 31 room ≡ t → EndWent s h (ends room h s last)
+    go Nothing t e f = record { lines = []; read = ap atEnd e; heap = refl; text = refl }
+    go (Final l) true e f =
+        rw f (record { lines = l ∷ []; read = ap atEnd e; heap = refl; text = sym (append-nil (lineFor h l)) })
+    go (Final l) false e f = rw f (record { lines = []; read = refl; heap = refl; text = refl })
+
+delivered-from : {s : Reader} {h m : Heap} {input w : List ℕ} → Delivered s h input w m → From s h input w m
+unfolding records closed atEnd session afterAll
+delivered-from (handed {s} {h} {k} {m} bytes later before after r {w} g d) =
+    let y : Stand = takes (length before) (begun h s) bytes in
+    let v : Went (begun h s) bytes y = went (length before) (begun h s) bytes in
+    let n : r .taken ≡ v .n = ap (λ (z : Progress). z .taken) (g .progress) ∙ v .count ∙ omega arith in
+    let rest : List ℕ = drop (r .taken) bytes ++ later in
+    let whole : bytes ++ later ≡ take (r .taken) bytes ++ rest =
+        ap (λ (z : List ℕ). z ++ later) (sym (take-append-drop (r .taken) bytes)) ∙ append-assoc (take (r .taken) bytes) (drop (r .taken) bytes) later in
+    let read : records (bytes ++ later) s ≡ v .taken .lines ++ records rest (r .reader) =
+        ap (λ (z : List ℕ). records z s) (whole ∙ ap (λ (i : ℕ). take i bytes ++ rest) n) ∙ v .taken .read rest
+        ∙ ap (λ (z : Progress). v .taken .lines ++ records rest (z .reader)) (sym (g .progress)) in
+    from-more s (r .reader) h k m (bytes ++ later) rest (take (r .written) after) w (v .taken .lines) read
+    (gave-text g ∙ v .text) (g .heap ∙ v .taken .heap) (delivered-from d)
+delivered-from (again {s} {h} {k} {m} before after r {w} g d) =
+    let v : EndWent s h (ends (length before) h s (closed s)) = end-went (length before) h s in
+    from-more s (r .reader) h k m [] [] (take (r .written) after) w (v .lines)
+    (v .read ∙ ap (λ (z : Progress). v .lines ++ records [] (z .reader)) (sym (g .progress)))
+    (gave-text g ∙ v .text) (g .heap ∙ v .heap) (delivered-from d)
+delivered-from (ended {s} {h} {k} before after r g e) =
+    let v : EndWent s h (ends (length before) h s (closed s)) = end-went (length before) h s in
+    let nothing : records [] (r .reader) ≡ [] = ap (records []) e in
+    let read : records [] s ≡ v .lines =
+        v .read ∙ ap (λ (z : Progress). v .lines ++ records [] (z .reader)) (sym (g .progress))
+        ∙ ap (λ (z : List Record). v .lines ++ z) nothing ∙ append-nil (v .lines) in
     record {
-      written =
-          ap (λ (x : List ℕ). x ++ w) (a .wrote .bytes)
-          ∙ ap (λ (x : List ℕ). session h lines ++ x) (g .written ∙ ap (λ (x : Heap). session x rest) (a .took .heap))
-          ∙ sym (session-append h lines rest)
-          ∙ sym (ap (session h) (a .took .read (joined ps)));
-      heap =
-          g .heap ∙ ap (λ (x : Heap). afterAll x rest) (a .took .heap)
-          ∙ sym (after-append h lines rest)
-          ∙ sym (ap (afterAll h) (a .took .read (joined ps)));
+      written = gave-text g ∙ v .text ∙ ap (session h) (sym read);
+      heap = g .heap ∙ v .heap ∙ ap (afterAll h) (sym read);
     }
 
-pub any-pieces : AnyPieces
-any-pieces h m ps w d =
-    let g : FromScan scanStart h (joined ps) w m = delivered-from d in
+pub any-deliveries : AnyDeliveries
+any-deliveries h m input w d =
+    let f : From readerStart h input w m = delivered-from d in
     record {
-      written = g .written ∙ ap (session h) (from-start (joined ps));
-      heap = g .heap ∙ ap (afterAll h) (from-start (joined ps));
+      written = f .written ∙ ap (session h) (reads-all input);
+      heap = f .heap ∙ ap (afterAll h) (reads-all input);
     }
+
+-- ---- getting on
+
+takes-some : (room : ℕ) (h : Heap) (s : Reader) (bytes : List ℕ) → 31 ≤ room → 1 ≤ length bytes → 1 ≤ takes room (begun h s) bytes .taken
+unfolding takes took
+takes-some room h s [] l m = absurd (omega arith)
+takes-some room h s (b ∷ rest) l m =
+    let first : Stand = took (begun h s) (fed s b) in
+    rw (le-leb (0 + 31) room (omega arith)) (omega (arith, went room first rest .count))
+
+end-holds-nothing : (room : ℕ) (h : Heap) (s : Reader) (last : Last) → 31 ≤ room → ends room h s last .reader ≡ readerStart
+unfolding ends
+end-holds-nothing room h s Nothing l = refl
+end-holds-nothing room h s (Final r) l = rw (le-leb 31 room l) refl
+
+pub gets-on : GetsOn
+gets-on = record { takesSome = takes-some; holdsNothing = λ room h s. end-holds-nothing room h s (closed s) }
+
+-- ---- room for an answer to each byte
+
+-- some bytes are left only where an answer has no room
+left-without-room : (room : ℕ) (x : Stand) (bytes : List ℕ) → takes room x bytes .taken < x .taken + length bytes → room < length (takes room x bytes .text) + 31
+unfolding takes took
+left-without-room room x [] h = absurd (omega arith)
+left-without-room room x (b ∷ rest) h = go (leb (length (x .text) + 31) room) refl (left-without-room room (took x (fed (x .reader) b)) rest) h
+  where
+    go : (t : Bool) → leb (length (x .text) + 31) room ≡ t
+        → (takes room (took x (fed (x .reader) b)) rest .taken < x .taken + 1 + length rest → room < length (takes room (took x (fed (x .reader) b)) rest .text) + 31)
+        → cond t (takes room (took x (fed (x .reader) b)) rest) x .taken < x .taken + suc (length rest)
+        → room < length (cond t (takes room (took x (fed (x .reader) b)) rest) x .text) + 31
+    go true e ih less = ih (omega arith)
+    go false e ih less = leb-false (length (x .text) + 31) room e
+
+-- so with room for an answer to each, all bytes are taken
+pub all-taken : {s : Reader} {h k : Heap} {bytes before after : List ℕ} {r : Progress} → Gave (takes (length before) (begun h s) bytes) before k after r
+    → r .written ≤ 31 * r .taken → 31 * length bytes ≤ length before → Took s h bytes (r .reader) k
+all-taken {s} {h} {k} {bytes} {before} {after} {r} g each room =
+    let y : Stand = takes (length before) (begun h s) bytes in
+    let v : Went (begun h s) bytes y = went (length before) (begun h s) bytes in
+    let taken : r .taken ≡ y .taken = ap (λ (z : Progress). z .taken) (g .progress) in
+    let written : r .written ≡ length (y .text) = ap (λ (z : Progress). z .written) (g .progress) in
+    let all : length bytes ≤ v .n = not-less (λ less. omega (arith, each, room, taken, written, v .count, left-without-room (length before) (begun h s) bytes (omega (arith, v .count)))) in
+    subst⁻¹ (λ (t : Reader). Took s h bytes t k) (ap (λ (z : Progress). z .reader) (g .progress))
+    (subst⁻¹ (λ (m : Heap). Took s h bytes (y .reader) m) (g .heap)
+    (subst (λ (l : List ℕ). Took s h l (y .reader) (y .heap)) (take-all (v .n) bytes all) (v .taken)))
+  where
+    not-less : {a b : ℕ} → (b < a → ⊥) → a ≤ b
+    not-less f = omega (arith, f)

@@ -4,7 +4,7 @@ use Prim.Native.Nat.{ℕ}
 use mathlib.Core.Path.{_≡_}
 use mathlib.Core.List.{List, [], _∷_, _++_}
 use Rattle.csv.specs.Lines.{recordsOf}
-use Rattle.csv.specs.declared.scan.Record.{Record}
+use Rattle.csv.specs.declared.reader.Record.{Record}
 use Rattle.rules.specs.Refusals.{Call}
 use Rattle.rules.specs.Calls.{answers, Event, Trace, Between, Begins, run}
 use Rattle.rules.specs.Demand3.{Claim}

@@ -1,4 +1,5 @@
 pub mod Session
-pub mod Pieces
+pub mod Taking
+pub mod Deliveries
 pub mod Program
 pub mod CallsMade

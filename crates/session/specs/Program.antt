@@ -4,10 +4,10 @@ use Prim.Native.Nat.{ℕ}
 use mathlib.Core.Path.{_≡_}
 use mathlib.Core.List.{List, [], _∷_, _++_}
 use Rattle.csv.specs.Lines.{recordsOf}
-use Rattle.csv.specs.Meaning.{scanStart}
+use Rattle.csv.specs.Reading.{readerStart}
 use Rattle.rules.specs.Heap.{Heap, fresh}
 use Rattle.session.specs.Session.{session}
-use Rattle.session.specs.Pieces.{Delivered, joined}
+use Rattle.session.specs.Deliveries.{Delivered}
 
 -- "It runs one heap of 256 cells, fresh at the start"
 abbrev pub atStart : Heap
@@ -21,6 +21,6 @@ header = 111 ∷ 112 ∷ 44 ∷ 114 ∷ 101 ∷ 102 ∷ 117 ∷ 115 ∷ 101 ∷ 
 unfoldable pub output : List ℕ → List ℕ
 output input = header ++ session atStart (recordsOf input)
 
--- the claim about pieces, of the program: what it writes, however its input was cut
+-- the claim about deliveries, of the program: what it writes, however its input was cut
 abbrev pub WritesOutput : Type 0
-WritesOutput = (ps : List (List ℕ)) (w : List ℕ) (m : Heap) → Delivered scanStart atStart ps w m → header ++ w ≡ output (joined ps)
+WritesOutput = (input w : List ℕ) (m : Heap) → Delivered readerStart atStart input w m → header ++ w ≡ output input

@@ -5,8 +5,8 @@ use mathlib.Core.List.{List, [], _∷_, _++_}
 use mathlib.Core.Bool.{cond}
 use lib.Dec.{eqb}
 use Rattle.csv.specs.Decimal.{rendered}
-use Rattle.csv.specs.declared.scan.Record.{Record}
-use Rattle.csv.specs.declared.scan.Record.the-variants.{Numbers, Malformed}
+use Rattle.csv.specs.declared.reader.Record.{Record}
+use Rattle.csv.specs.declared.reader.Record.the-variants.{Numbers, Malformed}
 use Rattle.rules.specs.declared.Answer.{Answer}
 use Rattle.rules.specs.Heap.{Heap}
 use Rattle.rules.specs.Asked.{Asked, callOf, obey}

@@ -1,8 +1,10 @@
-// Input lines in, output lines out, in pieces of any size, on one heap.
+// Lines that arrive in bits: bytes in, answers out, on one heap.
+mod ending;
 mod first;
 mod line;
-mod pieces;
+mod taking;
 
+pub use ending::end;
 pub use first::header;
-pub use pieces::close;
-pub use pieces::take_piece;
+pub use taking::Progress;
+pub use taking::take;

@@ -2,7 +2,7 @@
 ghost use mathlib.Core.Path.{_≡_};
 ghost use Rattle.rules.specs.Heap.{tables};
 ghost use Rattle.rules.specs.Sound.{Ready};
-ghost use Rattle.rules.specs.Asked.{callNumbered, callOf, uses, usedOrZero, unusedZero, Obeyed};
+ghost use Rattle.rules.specs.Asked.{callNumbered, callOf, uses, usedOrZero, unusedZero, isCall, Obeyed};
 use allocation::new;
 use answers::refuse;
 use finalizers::finish;
@@ -57,6 +57,22 @@ fn arguments_ok(op: u16, x: usize, y: usize, z: usize) -> bool
     ensures { λ r. ⌜ r ≡ unusedZero (uses op) x y z ⌝ }
 {
     unused_zero(arguments(op), x, y, z)
+}
+
+// Whether four numbers name a call. It is asked where no call can be done, since the tables don't fit or are damaged: LINE is told from the calls there too.
+pub fn names_call(op: u16, x: usize, y: usize, z: usize) -> bool
+    ensures { λ r. ⌜ r ≡ isCall (callOf op x y z) ⌝ }
+{
+    if !arguments_ok(op, x, y, z) {
+        return false;
+    }
+    if op == 0 {
+        return false;
+    }
+    if op > 8 {
+        return false;
+    }
+    true
 }
 
 // The call with this number, and its arguments as they are.

@@ -1,12 +1,10 @@
 -- Laws of the call that four numbers name, and of what it does. Assumes nothing.
-use Prim.Native.Nat.{ℕ, zero, suc, _≤_}
+use Prim.Native.Nat.{ℕ, zero, suc, _≤_, _<_}
 use native.Mathlib.Omega.{arith}
-use mathlib.Core.Path.{_≡_, refl, sym, _∙_}
+use mathlib.Core.Path.{_≡_, refl}
 use mathlib.Core.Logic.{_≢_, _⊎_, inl, inr}
 use mathlib.Core.Bool.{Bool, true, false, cond}
-use lib.Dec.{leb}
 use lib.ListN.{List·getD-eq-default}
-use borrow.Author.Tests.{lt-leb}
 use Rattle.rules.specs.declared.Answer.{Answer}
 use Rattle.rules.specs.Heap.{Heap}
 use Rattle.rules.specs.Refusals.{Call, isFresh}
@@ -63,20 +61,33 @@ obeyed-line h q a e w = rw e (record { heap = refl; answered = w })
 
 -- ---- whether a call is named
 
--- a number from 1 to 8 is that of a call
-pub names-call : (n x y z : ℕ) → (n ≡ 0 → ⊥) → leb n 8 ≡ isCall (callNumbered n x y z)
+pub unused-names-none : (n x y z : ℕ) → unusedZero (uses n) x y z ≡ false → false ≡ isCall (callOf n x y z)
+unfolding isCall
+unused-names-none n x y z h = rw (call-unused n x y z h) refl
+
+pub nought-names-none : (n x y z : ℕ) → unusedZero (uses n) x y z ≡ true → n ≡ 0 → false ≡ isCall (callOf n x y z)
+unfolding isCall callNumbered
+nought-names-none n x y z h e = rw (call-used n x y z h, e) refl
+
+pub above-names-none : (n x y z : ℕ) → unusedZero (uses n) x y z ≡ true → 8 < n → false ≡ isCall (callOf n x y z)
+unfolding isCall
+above-names-none n x y z h e = rw (call-used n x y z h, none-numbered n x y z e) refl
+
+numbered-call : (n x y z : ℕ) → 1 ≤ n → n ≤ 8 → true ≡ isCall (callNumbered n x y z)
 unfolding callNumbered isCall
-names-call zero x y z h = absurd (h refl)
-names-call (suc zero) x y z h = refl
-names-call (suc (suc zero)) x y z h = refl
-names-call (suc (suc (suc zero))) x y z h = refl
-names-call (suc (suc (suc (suc zero)))) x y z h = refl
-names-call (suc (suc (suc (suc (suc zero))))) x y z h = refl
-names-call (suc (suc (suc (suc (suc (suc zero)))))) x y z h = refl
-names-call (suc (suc (suc (suc (suc (suc (suc zero))))))) x y z h = refl
-names-call (suc (suc (suc (suc (suc (suc (suc (suc zero)))))))) x y z h = refl
-names-call (suc (suc (suc (suc (suc (suc (suc (suc (suc n))))))))) x y z h =
-    lt-leb (suc (suc (suc (suc (suc (suc (suc (suc (suc n))))))))) 8 (omega arith)
+numbered-call zero x y z h k = absurd (omega arith)
+numbered-call (suc zero) x y z h k = refl
+numbered-call (suc (suc zero)) x y z h k = refl
+numbered-call (suc (suc (suc zero))) x y z h k = refl
+numbered-call (suc (suc (suc (suc zero)))) x y z h k = refl
+numbered-call (suc (suc (suc (suc (suc zero))))) x y z h k = refl
+numbered-call (suc (suc (suc (suc (suc (suc zero)))))) x y z h k = refl
+numbered-call (suc (suc (suc (suc (suc (suc (suc zero))))))) x y z h k = refl
+numbered-call (suc (suc (suc (suc (suc (suc (suc (suc zero)))))))) x y z h k = refl
+numbered-call (suc (suc (suc (suc (suc (suc (suc (suc (suc n))))))))) x y z h k = absurd (omega arith)
+
+pub names-call : (n x y z : ℕ) → unusedZero (uses n) x y z ≡ true → 1 ≤ n → n ≤ 8 → true ≡ isCall (callOf n x y z)
+names-call n x y z h l m = rw (call-used n x y z h) (numbered-call n x y z l m)
 
 -- ---- FRESH is asked for by no four numbers
 

@@ -10,4 +10,8 @@ returns-2 : tie.Need-returns-2
 returns-2 c = rw (ne-eqb _ _ (c .if1 .left))
 
 pub number-of-spec : {M : Type 1} → statement M
-number-of-spec = tie.close (tie.spec returns returns-2)
+number-of-spec =
+    tie.close
+    (tie.spec
+    returns
+    returns-2)

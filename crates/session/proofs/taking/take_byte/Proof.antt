@@ -1,27 +1,23 @@
--- `session::pieces::take_byte` meets its contract: a byte that ends a line, or one that does not. Assumes nothing.
-use Rattle.session.proofs.Delivery.{progressed-held, progressed-line}
+-- `session::taking::take_byte` meets its contract: a byte that ends a line, or one that does not. Assumes nothing.
+use mathlib.Core.Path.{sym, _∙_}
+use Rattle.session.proofs.Underway.{took-held, took-line}
 use borrow.Author.Needs.{needs}
-use Rattle.session.proofs.pieces.take_byte.Statement.{statement}
-use Rattle.session.proofs.pieces.take_byte.Tie as tie
+use Rattle.session.proofs.taking.take_byte.Statement.{statement}
+use Rattle.session.proofs.taking.take_byte.Tie as tie
 
 returns : tie.Need-returns
-returns c = progressed-held _ _ _ _ _ _ (rw (c .before .next .given .1) at (c .before .before .before .feed .ensures))
+returns c =
+    let feed = c .before .before .before .feed in
+    let next = c .before .next in
+    took-held _ _ _ _ _ _ (sym (feed .ensures) ∙ next .given .1)
 
 returns-2 : tie.Need-returns-2
 returns-2 c =
-    let feed =
-    c .before .before .before .before .before .before .before .before .before .before .before .before .before .before .before .before .before .before
-    .before .before .before .before .before .before .before .before .before .before .before .feed in
-    let said =
-    c .before .before .before .before .before .before .before .before .before .before .before .before .before .before .before .before .before .before
-    .before .before .before .before .before .before .before .before .before .said in
+    let feed = c .before .before .before .before .before .before .before .before .before .before .before .before .before .before .before .before .before .before .before .before .before .before .before .before .before .before .before .before .before .feed in
+    let said = c .before .before .before .before .before .before .before .before .before .before .before .before .before .before .before .before .before .before .before .before .before .before .before .before .before .before .before .said in
     let answer = c .before .before .before .before .before .before .before .before .before .before .before .before .before .before .before .before .before .answer in
-    rw (c .next-line .ensures)
-    (progressed-line _ _ _ _ _ _ _ _ _
-    (rw (said .given .1) at (feed .ensures))
-    (answer .ensures .0)
-    (answer .ensures .1 .0)
-    (answer .ensures .1 .1))
+    let next-line = c .next-line in
+    took-line _ _ _ _ _ _ _ _ _ _ (sym (feed .ensures) ∙ said .given .1) (answer .ensures .0) (answer .ensures .1 .0) (answer .ensures .1 .1) (next-line .ensures)
 
 pub take-byte-spec : {M : Type 1} → statement M
 take-byte-spec =
@@ -40,5 +36,5 @@ take-byte-spec =
     (λ c. c .before .before .before .before .before .before .before .before .before .before .before .before .before .before .before .before .before .answer .kept .1 .1 .1 .1 .0)
     (λ c. c .before .before .before .before .before .before .before .before .before .before .before .before .before .before .before .before .before .answer .kept .1 .1 .1 .1 .1 .0)
     (λ c. c .before .before .before .before .before .before .before .before .before .before .before .before .before .before .before .before .before .answer .kept .1 .1 .1 .1 .1 .1 .0)
-    (λ c. c .before .before .before .before .before .before .before .before .before .before .before .before .before .before .before .before .before .answer .ensures .1 .0 .size)
+    (λ c. c .before .before .before .before .before .before .before .before .before .before .before .before .before .before .before .before .before .answer .kept .1 .1 .1 .1 .1 .1 .1 .1 .1 .0)
     returns-2)

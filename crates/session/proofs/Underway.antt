@@ -1,0 +1,176 @@
+-- Laws of taking bytes and of the end, for the functions that do it. Assumes nothing.
+use Prim.Native.Nat.{ℕ, suc, _+_, _*_, _-_, _≤_, _<_}
+use native.Mathlib.Omega.{arith}
+use native.Mathlib.Numerals.{add-one}
+use mathlib.Core.Path.{_≡_, refl, sym, _∙_, ap, subst⁻¹}
+use mathlib.Core.List.{List, [], _∷_, _++_}
+use mathlib.Core.Bool.{false}
+use lib.ListN.{length, getD, drop, drop-of-length-le}
+use lib.Seq.{sets, sets-eq, drop-cons}
+use borrow.Author.Tests.{le-leb, lt-leb}
+use Rattle.csv.specs.Reading.{readerStart, fed}
+use Rattle.csv.specs.Written.{Wrote}
+use Rattle.csv.specs.declared.reader.Record.{Record}
+use Rattle.csv.specs.declared.reader.Record.the-variants.{Numbers, Malformed}
+use Rattle.csv.specs.declared.reader.Reader.{Reader}
+use Rattle.csv.specs.declared.reader.Step.{Step}
+use Rattle.csv.specs.declared.reader.Step.the-variants.{More, Line}
+use Rattle.csv.specs.declared.reader.Last.{Last}
+use Rattle.csv.specs.declared.reader.Last.the-variants.{Nothing, Final}
+use Rattle.csv.proofs.Written.{wrote-nothing, wrote-more}
+use Rattle.rules.specs.Heap.{Heap}
+use Rattle.laws.specs.Calls.Admission.{admission}
+use Rattle.laws.specs.Calls.Asked.{asksFresh, never-fresh}
+use Rattle.laws.specs.Demand.Step.{admission-kept}
+use Rattle.session.specs.declared.taking.Progress.{Progress}
+use Rattle.session.specs.Session.{askedOf, lineFor, afterLine}
+use Rattle.session.specs.Taking.{heapAfter, readerAfter, textFor, Stand, begun, took, takes, ends, Gave, TookByte}
+
+-- ---- one byte
+
+-- it ends no line
+pub took-held : (s : Step) (t : Reader) (taken : ℕ) (out : List ℕ) (at : ℕ) (h : Heap) → s ≡ More t
+    → TookByte s taken out at h h out (record { reader = t; taken = taken; written = at })
+unfolding heapAfter readerAfter textFor
+took-held s t taken out at h e = subst⁻¹ (λ (x : Step). TookByte x taken out at h h out (record { reader = t; taken = taken; written = at })) e
+    (record { heap = refl; reader = refl; count = refl; wrote = wrote-nothing out at; room = omega arith })
+
+-- it ends a line, which is answered
+pub took-line : (s : Step) (l : Record) (taken : ℕ) (out : List ℕ) (at : ℕ) (h k : Heap) (end : List ℕ) (written : ℕ) (r : Progress) → s ≡ Line l
+    → k ≡ afterLine h l → Wrote out at (lineFor h l) end written → written ≤ at + 31 → r ≡ record { reader = readerStart; taken = taken; written = written }
+    → TookByte s taken out at h k end r
+unfolding heapAfter readerAfter textFor
+took-line s l taken out at h k end written r e g w m p =
+    subst⁻¹ (λ (x : Progress). TookByte s taken out at h k end x) p
+    (subst⁻¹ (λ (x : Step). TookByte x taken out at h k end (record { reader = readerStart; taken = taken; written = written })) e
+    (record { heap = g; reader = refl; count = refl; wrote = w; room = m }))
+
+-- ---- whether the tables are admitted
+
+lines-never-fresh : (l : Record) → asksFresh (askedOf l) ≡ false
+unfolding askedOf
+lines-never-fresh (Numbers n x y z) = never-fresh n x y z
+lines-never-fresh Malformed = unfold asksFresh in refl
+
+admission-after : (h : Heap) (s : Step) → admission (heapAfter h s) ≡ admission h
+unfolding heapAfter
+admission-after h (More s) = refl
+admission-after h (Line l) = admission-kept h (askedOf l) (lines-never-fresh l)
+
+-- as before the byte
+pub took-admission : {s : Step} {taken at why : ℕ} {before after : List ℕ} {h k : Heap} {r : Progress}
+    → TookByte s taken before at h k after r → why ≡ admission h → why ≡ admission k
+took-admission {s} {h = h} t e = e ∙ sym (admission-after h s) ∙ ap admission (sym (t .heap))
+
+-- ---- what was written, as the whole room shows it
+
+gave : (h : Heap) (before out text : List ℕ) (r : Progress) → Wrote before 0 text out (r .written) → r .written ≤ length before
+    → Gave (record { heap = h; reader = r .reader; taken = r .taken; text = text }) before h out r
+gave h before out text r w m =
+    let end : r .written ≡ length text = omega (arith, w .end) in
+    let fits : 0 + length text ≤ length before = omega (arith, w .end) in
+    let plain : 0 + length text ≡ length text = omega arith in
+    record {
+      heap = refl;
+      progress = ap (λ (n : ℕ). record { reader = r .reader; taken = r .taken; written = n }) end;
+      room = omega arith;
+      out = w .bytes ∙ sets-eq text before 0 fits ∙ ap (λ (n : ℕ). text ++ drop n before) plain;
+    }
+
+-- ---- byte after byte
+
+-- Some of the bytes are taken: what the rest of them will give is what all of them give. No answer has more than 31 bytes.
+pub record Underway (before : List ℕ) (h : Heap) (s : Reader) (bytes : List ℕ) (k : Heap) (out : List ℕ) (p : Progress) : Type 0 where
+  pub text : List ℕ
+  pub wrote : Wrote before 0 text out (p .written)
+  pub room : p .written ≤ length before
+  pub within : p .taken ≤ length bytes
+  pub each : p .written ≤ 31 * p .taken
+  pub goal :
+      takes (length before) (begun h s) bytes
+      ≡ takes (length before) (record { heap = k; reader = p .reader; taken = p .taken; text = text }) (drop (p .taken) bytes)
+
+pub underway-begin : (before : List ℕ) (h : Heap) (s : Reader) (bytes : List ℕ) → Underway before h s bytes h before (record { reader = s; taken = 0; written = 0 })
+underway-begin before h s bytes = record {
+  text = [];
+  wrote = wrote-nothing before 0;
+  room = omega arith;
+  within = omega arith;
+  each = omega arith;
+  goal = refl;
+}
+
+takes-one : (room : ℕ) (x : Stand) (bytes : List ℕ) → x .taken < length bytes → length (x .text) + 31 ≤ room
+    → takes room x (drop (x .taken) bytes) ≡ takes room (took x (fed (x .reader) (getD bytes (x .taken) 0))) (drop (x .taken + 1) bytes)
+unfolding takes
+takes-one room x bytes m l = rw (drop-cons bytes (x .taken) 0 m, le-leb (length (x .text) + 31) room l, add-one) refl
+
+pub underway-byte : (before : List ℕ) (h : Heap) (s : Reader) (bytes : List ℕ) (k m : Heap) (out end : List ℕ) (p r : Progress)
+    → Underway before h s bytes k out p → p .taken < length bytes → p .written + 31 ≤ length before
+    → TookByte (fed (p .reader) (getD bytes (p .taken) 0)) (p .taken + 1) out (p .written) k m end r
+    → Underway before h s bytes m end r
+unfolding took
+underway-byte before h s bytes k m out end p r u less room t =
+    let step : Step = fed (p .reader) (getD bytes (p .taken) 0) in
+    let x : Stand = record { heap = k; reader = p .reader; taken = p .taken; text = u .text } in
+    let same : took x step ≡ record { heap = m; reader = r .reader; taken = r .taken; text = u .text ++ textFor k step } =
+        λ i. record { heap = sym (t .heap) i; reader = sym (t .reader) i; taken = sym (t .count) i; text = u .text ++ textFor k step } in
+    record {
+      text = u .text ++ textFor k step;
+      wrote = wrote-more _ _ _ _ _ _ _ _ (u .wrote) (t .wrote);
+      room = omega (arith, t .room);
+      within = omega (arith, t .count);
+      each = omega (arith, t .count, t .room, u .each);
+      goal =
+          u .goal ∙ takes-one (length before) x bytes less (omega (arith, u .wrote .end))
+          ∙ ap (λ (n : ℕ). takes (length before) (took x step) (drop n bytes)) (sym (t .count))
+          ∙ ap (λ (y : Stand). takes (length before) y (drop (r .taken) bytes)) same;
+    }
+
+-- no room is left for an answer
+pub underway-full : (before : List ℕ) (h : Heap) (s : Reader) (bytes : List ℕ) (k : Heap) (out : List ℕ) (p : Progress)
+    → Underway before h s bytes k out p → p .taken < length bytes → length before < p .written + 31
+    → Gave (takes (length before) (begun h s) bytes) before k out p
+unfolding takes
+underway-full before h s bytes k out p u less full =
+    let stop :
+        takes (length before) (record { heap = k; reader = p .reader; taken = p .taken; text = u .text }) (drop (p .taken) bytes)
+        ≡ record { heap = k; reader = p .reader; taken = p .taken; text = u .text } =
+        rw (drop-cons bytes (p .taken) 0 less, lt-leb (length (u .text) + 31) (length before) (omega (arith, u .wrote .end))) refl in
+    subst⁻¹ (λ (y : Stand). Gave y before k out p) (u .goal ∙ stop) (gave k before out (u .text) p (u .wrote) (u .room))
+
+-- all bytes are taken
+pub underway-all : (before : List ℕ) (h : Heap) (s : Reader) (bytes : List ℕ) (k : Heap) (out : List ℕ) (p : Progress)
+    → Underway before h s bytes k out p → length bytes ≤ p .taken
+    → Gave (takes (length before) (begun h s) bytes) before k out p
+unfolding takes
+underway-all before h s bytes k out p u all =
+    let stop :
+        takes (length before) (record { heap = k; reader = p .reader; taken = p .taken; text = u .text }) (drop (p .taken) bytes)
+        ≡ record { heap = k; reader = p .reader; taken = p .taken; text = u .text } =
+        rw (drop-of-length-le bytes {i = p .taken} all) refl in
+    subst⁻¹ (λ (y : Stand). Gave y before k out p) (u .goal ∙ stop) (gave k before out (u .text) p (u .wrote) (u .room))
+
+-- ---- the end
+
+pub ended-nothing : (last : Last) (h : Heap) (s : Reader) (out : List ℕ) (r : Progress) → last ≡ Nothing → r ≡ record { reader = readerStart; taken = 0; written = 0 }
+    → Gave (ends (length out) h s last) out h out r
+unfolding ends
+ended-nothing last h s out r e p =
+    subst⁻¹ (λ (x : Last). Gave (ends (length out) h s x) out h out r) e
+    (subst⁻¹ (λ (x : Progress). Gave (begun h readerStart) out h out x) p
+    (gave h out out [] (record { reader = readerStart; taken = 0; written = 0 }) (wrote-nothing out 0) (omega arith)))
+
+pub ended-without-room : (last : Last) (l : Record) (h : Heap) (s : Reader) (out : List ℕ) → last ≡ Final l → length out < 31
+    → Gave (ends (length out) h s last) out h out (record { reader = s; taken = 0; written = 0 })
+unfolding ends
+ended-without-room last l h s out e full =
+    rw (e, lt-leb 31 (length out) full) (gave h out out [] (record { reader = s; taken = 0; written = 0 }) (wrote-nothing out 0) (omega arith))
+
+pub ended-line : (last : Last) (l : Record) (h k : Heap) (s : Reader) (out end : List ℕ) (written : ℕ) (r : Progress) → last ≡ Final l → 31 ≤ length out
+    → k ≡ afterLine h l → Wrote out 0 (lineFor h l) end written → written ≤ 31 → r ≡ record { reader = readerStart; taken = 0; written = written }
+    → Gave (ends (length out) h s last) out k end r
+unfolding ends
+ended-line last l h k s out end written r e room g w m p =
+    rw (e, le-leb 31 (length out) room, p, g)
+    (gave (afterLine h l) out end (lineFor h l) (record { reader = readerStart; taken = 0; written = written }) w (omega arith))

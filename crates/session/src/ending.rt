@@ -1,0 +1,63 @@
+// The end of the input.
+ghost use lib.ListN.{length};
+ghost use Rattle.csv.specs.Reading.{closed};
+ghost use Rattle.rules.specs.Heap.{tables};
+ghost use Rattle.session.specs.Taking.{Gave, ends};
+use crate::line::ROOM;
+use crate::line::answer;
+use crate::taking::Progress;
+use crate::taking::next_line;
+use csv::reader::Last;
+use csv::reader::Reader;
+use soundness::admit;
+
+// Answers an unfinished line, after which nothing is held. Without room for its answer nothing is done, and the reader is handed back as it was.
+pub fn end(
+    kind: &mut [u16],
+    flags: &mut [u16],
+    count: &mut [u16],
+    slots: &mut [u16],
+    roots: &mut [u16],
+    queue: &mut [u16],
+    control: &mut [u16],
+    reader: Reader,
+    out: &mut [u8],
+) -> Progress
+    ensures { λ r. ⌜ Gave
+        (ends (length (now (out .entry)))
+            (tables (now (kind .entry)) (now (flags .entry)) (now (count .entry)) (now (slots .entry)) (now (roots .entry)) (now (queue .entry)) (now (control .entry)))
+            reader (closed reader))
+        (now (out .entry))
+        (tables (now (kind .exit)) (now (flags .exit)) (now (count .exit)) (now (slots .exit)) (now (roots .exit)) (now (queue .exit)) (now (control .exit)))
+        (now (out .exit)) r ⌝ }
+{
+    match csv::reader::end(reader) {
+        Last::Nothing => next_line(0, 0),
+        Last::Final(said) => {
+            if out.len() < ROOM {
+                return Progress {
+                    reader,
+                    taken: 0,
+                    written: 0,
+                };
+            }
+            let why = admit(kind, flags, count, slots, roots, queue, control);
+            next_line(
+                0,
+                answer(
+                    kind,
+                    flags,
+                    count,
+                    slots,
+                    roots,
+                    queue,
+                    control,
+                    why,
+                    said,
+                    out,
+                    0,
+                ),
+            )
+        }
+    }
+}
