@@ -11,6 +11,7 @@ pub enum Record {
 
 // The line so far: the fields that are finished, then the digits and the value of the next one. The last four values are kept, d the latest.
 // A CR is not part of the line until the next byte is known: cr is 0 if none is held back.
+#[repr(C)]
 pub struct Reader {
     pub cr: u16,
     pub field: u16,

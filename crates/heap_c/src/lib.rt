@@ -3,6 +3,9 @@
 ghost use Rattle.rules.specs.Heap.{tables};
 ghost use Rattle.rules.specs.Calls.{Did};
 ghost use Rattle.rules.specs.Refusals.Call.{FRESH, NEW, CLEAR, COPY, LOAD, STORE, COLLECT, START, FINISH};
+
+mod lines;
+
 use allocation::fresh;
 use allocation::new;
 use answers::refuse;

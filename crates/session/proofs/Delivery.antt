@@ -163,10 +163,10 @@ delivered-from (handed {s} {h} {k} {m} bytes later before after r {w} g d) =
     let n : r .taken ≡ v .n = ap (λ (z : Progress). z .taken) (g .progress) ∙ v .count ∙ omega arith in
     let rest : List ℕ = drop (r .taken) bytes ++ later in
     let whole : bytes ++ later ≡ take (r .taken) bytes ++ rest =
-        ap (λ (z : List ℕ). z ++ later) (sym (take-append-drop (r .taken) bytes)) ∙ append-assoc (take (r .taken) bytes) (drop (r .taken) bytes) later in
+    ap (λ (z : List ℕ). z ++ later) (sym (take-append-drop (r .taken) bytes)) ∙ append-assoc (take (r .taken) bytes) (drop (r .taken) bytes) later in
     let read : records (bytes ++ later) s ≡ v .taken .lines ++ records rest (r .reader) =
-        ap (λ (z : List ℕ). records z s) (whole ∙ ap (λ (i : ℕ). take i bytes ++ rest) n) ∙ v .taken .read rest
-        ∙ ap (λ (z : Progress). v .taken .lines ++ records rest (z .reader)) (sym (g .progress)) in
+    ap (λ (z : List ℕ). records z s) (whole ∙ ap (λ (i : ℕ). take i bytes ++ rest) n) ∙ v .taken .read rest
+    ∙ ap (λ (z : Progress). v .taken .lines ++ records rest (z .reader)) (sym (g .progress)) in
     from-more s (r .reader) h k m (bytes ++ later) rest (take (r .written) after) w (v .taken .lines) read
     (gave-text g ∙ v .text) (g .heap ∙ v .taken .heap) (delivered-from d)
 delivered-from (again {s} {h} {k} {m} before after r {w} g d) =
@@ -178,8 +178,8 @@ delivered-from (ended {s} {h} {k} before after r g e) =
     let v : EndWent s h (ends (length before) h s (closed s)) = end-went (length before) h s in
     let nothing : records [] (r .reader) ≡ [] = ap (records []) e in
     let read : records [] s ≡ v .lines =
-        v .read ∙ ap (λ (z : Progress). v .lines ++ records [] (z .reader)) (sym (g .progress))
-        ∙ ap (λ (z : List Record). v .lines ++ z) nothing ∙ append-nil (v .lines) in
+    v .read ∙ ap (λ (z : Progress). v .lines ++ records [] (z .reader)) (sym (g .progress))
+    ∙ ap (λ (z : List Record). v .lines ++ z) nothing ∙ append-nil (v .lines) in
     record {
       written = gave-text g ∙ v .text ∙ ap (session h) (sym read);
       heap = g .heap ∙ v .heap ∙ ap (afterAll h) (sym read);

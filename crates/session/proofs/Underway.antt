@@ -114,7 +114,7 @@ underway-byte before h s bytes k m out end p r u less room t =
     let step : Step = fed (p .reader) (getD bytes (p .taken) 0) in
     let x : Stand = record { heap = k; reader = p .reader; taken = p .taken; text = u .text } in
     let same : took x step ≡ record { heap = m; reader = r .reader; taken = r .taken; text = u .text ++ textFor k step } =
-        λ i. record { heap = sym (t .heap) i; reader = sym (t .reader) i; taken = sym (t .count) i; text = u .text ++ textFor k step } in
+    λ i. record { heap = sym (t .heap) i; reader = sym (t .reader) i; taken = sym (t .count) i; text = u .text ++ textFor k step } in
     record {
       text = u .text ++ textFor k step;
       wrote = wrote-more _ _ _ _ _ _ _ _ (u .wrote) (t .wrote);
@@ -134,9 +134,9 @@ pub underway-full : (before : List ℕ) (h : Heap) (s : Reader) (bytes : List �
 unfolding takes
 underway-full before h s bytes k out p u less full =
     let stop :
-        takes (length before) (record { heap = k; reader = p .reader; taken = p .taken; text = u .text }) (drop (p .taken) bytes)
-        ≡ record { heap = k; reader = p .reader; taken = p .taken; text = u .text } =
-        rw (drop-cons bytes (p .taken) 0 less, lt-leb (length (u .text) + 31) (length before) (omega (arith, u .wrote .end))) refl in
+    takes (length before) (record { heap = k; reader = p .reader; taken = p .taken; text = u .text }) (drop (p .taken) bytes)
+    ≡ record { heap = k; reader = p .reader; taken = p .taken; text = u .text } =
+    rw (drop-cons bytes (p .taken) 0 less, lt-leb (length (u .text) + 31) (length before) (omega (arith, u .wrote .end))) refl in
     subst⁻¹ (λ (y : Stand). Gave y before k out p) (u .goal ∙ stop) (gave k before out (u .text) p (u .wrote) (u .room))
 
 -- all bytes are taken
@@ -146,9 +146,9 @@ pub underway-all : (before : List ℕ) (h : Heap) (s : Reader) (bytes : List ℕ
 unfolding takes
 underway-all before h s bytes k out p u all =
     let stop :
-        takes (length before) (record { heap = k; reader = p .reader; taken = p .taken; text = u .text }) (drop (p .taken) bytes)
-        ≡ record { heap = k; reader = p .reader; taken = p .taken; text = u .text } =
-        rw (drop-of-length-le bytes {i = p .taken} all) refl in
+    takes (length before) (record { heap = k; reader = p .reader; taken = p .taken; text = u .text }) (drop (p .taken) bytes)
+    ≡ record { heap = k; reader = p .reader; taken = p .taken; text = u .text } =
+    rw (drop-of-length-le bytes {i = p .taken} all) refl in
     subst⁻¹ (λ (y : Stand). Gave y before k out p) (u .goal ∙ stop) (gave k before out (u .text) p (u .wrote) (u .room))
 
 -- ---- the end

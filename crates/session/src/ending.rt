@@ -25,8 +25,8 @@ pub fn end(
 ) -> Progress
     ensures { λ r. ⌜ Gave
         (ends (length (now (out .entry)))
-            (tables (now (kind .entry)) (now (flags .entry)) (now (count .entry)) (now (slots .entry)) (now (roots .entry)) (now (queue .entry)) (now (control .entry)))
-            reader (closed reader))
+        (tables (now (kind .entry)) (now (flags .entry)) (now (count .entry)) (now (slots .entry)) (now (roots .entry)) (now (queue .entry)) (now (control .entry)))
+        reader (closed reader))
         (now (out .entry))
         (tables (now (kind .exit)) (now (flags .exit)) (now (count .exit)) (now (slots .exit)) (now (roots .exit)) (now (queue .exit)) (now (control .exit)))
         (now (out .exit)) r ⌝ }

@@ -15,6 +15,7 @@ use csv::reader::start;
 use soundness::admit;
 
 // The reader to go on with, how many bytes were taken, and how many were written.
+#[repr(C)]
 pub struct Progress {
     pub reader: Reader,
     pub taken: usize,
@@ -96,8 +97,8 @@ pub fn take(
 ) -> Progress
     ensures { λ r. ⌜ Gave
         (takes (length (now (out .entry)))
-            (begun (tables (now (kind .entry)) (now (flags .entry)) (now (count .entry)) (now (slots .entry)) (now (roots .entry)) (now (queue .entry)) (now (control .entry))) reader)
-            (now (bytes .entry)))
+        (begun (tables (now (kind .entry)) (now (flags .entry)) (now (count .entry)) (now (slots .entry)) (now (roots .entry)) (now (queue .entry)) (now (control .entry))) reader)
+        (now (bytes .entry)))
         (now (out .entry))
         (tables (now (kind .exit)) (now (flags .exit)) (now (count .exit)) (now (slots .exit)) (now (roots .exit)) (now (queue .exit)) (now (control .exit)))
         (now (out .exit)) r ⌝ }

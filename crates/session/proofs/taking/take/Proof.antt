@@ -56,8 +56,7 @@ loop-again c =
     let take-byte = c .before .before .before .before .before .before .before .before .before .before .before .before .before .before .before .before .take-byte in
     let loop = c .before .before .before .before .before .before .before .before .before .before .before .before .before .before .before .before .before .before .before .before .before .before .before .before .before .before .before .before .before .before .loop in
     let if1 = c .before .before .before .before .before .before .before .before .before .before .before .before .before .before .before .before .before .before .before .before .before .before .before .before .before .before .before .before .if1 in
-    let if2 = c .before .before .before .before .before .before .before .before .before .before .before .before .before .before .before .before .before .before .before .before .before .before .before .before .before .before .if2 in
-    (
+    let if2 = c .before .before .before .before .before .before .before .before .before .before .before .before .before .before .before .before .before .before .before .before .before .before .before .before .before .before .if2 in (
       took-admission (take-byte .ensures) (loop .inv .0),
       record {
         kind = take-byte .kept .0 ∙ loop .inv .1 .kind;
