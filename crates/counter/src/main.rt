@@ -1,4 +1,5 @@
 // Runs one heap of 256 cells from standard input: a call on each line, and a line of answer for each on standard output.
+// It reads what has come, takes it, and writes the answers before it reads again, so that each goes out as soon as its line has ended.
 //
 // A read that fails ends the run: the lines before it are answered by then, and the unfinished one is not. A write that fails ends it as well.
 // Either is reported on standard error; the language has no exit status for a program to set.
@@ -6,17 +7,16 @@ ghost use mathlib.Core.Path.{_≡_};
 ghost use Prim.Native.Nat.{_≤_};
 ghost use lib.ListN.{length};
 ghost use Rattle.rules.specs.Heap.{tables};
-ghost use Rattle.rules.specs.Sound.{Ready};
 ghost use Rattle.counter.specs.Served.{Answered, AnsweredSome};
-use csv::scan::Scan;
-use csv::scan::scan_start;
-use session::close;
+use csv::reader::Reader;
+use csv::reader::start;
+use session::end;
 use session::header;
-use session::take_piece;
+use session::take;
 
-// After a read: the scan to go on with, or the run is over.
+// After a read: the reader to go on with, or the run is over.
 enum Served {
-    More(Scan),
+    More(Reader),
     Over,
 }
 
@@ -27,8 +27,17 @@ fn room() -> [u8; 2048]
     [0; 2048]
 }
 
-// Writes the answers to the lines that end in a piece of the input, in one go.
-fn serve_piece(
+// Writes all of it to standard output, or reports that it could not.
+fn write(text: &[u8]) -> bool {
+    if io::write_all(libc::STDOUT_FILENO, text) {
+        return true;
+    }
+    os::fail(b"write");
+    false
+}
+
+// Writes the answers to the lines that end in these bytes, in one go.
+fn answer(
     kind: &mut [u16],
     flags: &mut [u16],
     count: &mut [u16],
@@ -36,18 +45,17 @@ fn serve_piece(
     roots: &mut [u16],
     queue: &mut [u16],
     control: &mut [u16],
-    scan: Scan,
-    piece: &[u8],
+    reader: Reader,
+    bytes: &[u8],
 ) -> Served
-    requires { ⌜ Ready (tables (now kind) (now flags) (now count) (now slots) (now roots) (now queue) (now control)) ⌝ }
-    requires { ⌜ length (now piece) ≤ 2048 ⌝ }
-    ensures { λ r. ⌜ Answered scan
+    requires { ⌜ length (now bytes) ≤ 2048 ⌝ }
+    ensures { λ r. ⌜ Answered reader
         (tables (now (kind .entry)) (now (flags .entry)) (now (count .entry)) (now (slots .entry)) (now (roots .entry)) (now (queue .entry)) (now (control .entry)))
-        (now (piece .entry))
+        (now (bytes .entry))
         (tables (now (kind .exit)) (now (flags .exit)) (now (count .exit)) (now (slots .exit)) (now (roots .exit)) (now (queue .exit)) (now (control .exit))) r ⌝ }
 {
     let mut out = io::large_buffer();
-    let p = take_piece(
+    let p = take(
         kind,
         flags,
         count,
@@ -55,21 +63,20 @@ fn serve_piece(
         roots,
         queue,
         control,
-        scan,
-        piece,
+        reader,
+        bytes,
         &mut out,
     );
-    let at = p.at;
-    let next = p.scan;
-    if !io::write_all(libc::STDOUT_FILENO, &out[..at]) {
-        os::fail(b"write");
+    let written = p.written;
+    let next = p.reader;
+    if !write(&out[..written]) {
         return Served::Over;
     }
     Served::More(next)
 }
 
 // The end of the input: an unfinished line is answered.
-fn end(
+fn close(
     kind: &mut [u16],
     flags: &mut [u16],
     count: &mut [u16],
@@ -77,12 +84,10 @@ fn end(
     roots: &mut [u16],
     queue: &mut [u16],
     control: &mut [u16],
-    scan: Scan,
-)
-    requires { ⌜ Ready (tables (now kind) (now flags) (now count) (now slots) (now roots) (now queue) (now control)) ⌝ }
-{
+    reader: Reader,
+) {
     let mut out = io::buffer();
-    let at = close(
+    let p = end(
         kind,
         flags,
         count,
@@ -90,12 +95,11 @@ fn end(
         roots,
         queue,
         control,
-        scan,
+        reader,
         &mut out,
     );
-    if !io::write_all(libc::STDOUT_FILENO, &out[..at]) {
-        os::fail(b"write");
-    }
+    let written = p.written;
+    write(&out[..written]);
 }
 
 // Reads once, and answers.
@@ -107,10 +111,9 @@ fn serve(
     roots: &mut [u16],
     queue: &mut [u16],
     control: &mut [u16],
-    scan: Scan,
+    reader: Reader,
 ) -> Served
-    requires { ⌜ Ready (tables (now kind) (now flags) (now count) (now slots) (now roots) (now queue) (now control)) ⌝ }
-    ensures { λ r. ⌜ AnsweredSome scan
+    ensures { λ r. ⌜ AnsweredSome reader
         (tables (now (kind .entry)) (now (flags .entry)) (now (count .entry)) (now (slots .entry)) (now (roots .entry)) (now (queue .entry)) (now (control .entry)))
         (tables (now (kind .exit)) (now (flags .exit)) (now (count .exit)) (now (slots .exit)) (now (roots .exit)) (now (queue .exit)) (now (control .exit))) r ⌝ }
 {
@@ -121,11 +124,11 @@ fn serve(
         return Served::Over;
     }
     if got == 0 {
-        end(kind, flags, count, slots, roots, queue, control, scan);
+        close(kind, flags, count, slots, roots, queue, control, reader);
         return Served::Over;
     }
     let n = io::count(got, &input);
-    serve_piece(
+    answer(
         kind,
         flags,
         count,
@@ -133,7 +136,7 @@ fn serve(
         roots,
         queue,
         control,
-        scan,
+        reader,
         &input[..n],
     )
 }
@@ -148,7 +151,7 @@ fn run() {
     let mut roots = [0u16; 64];
     let mut queue = [0u16; 256];
     let mut control = [0u16; 2];
-    let mut scan = scan_start();
+    let mut reader = start();
     let mut reads = u64::MAX;
     while reads > 0 {
         reads -= 1;
@@ -160,19 +163,17 @@ fn run() {
             &mut roots,
             &mut queue,
             &mut control,
-            scan,
+            reader,
         ) else {
             return;
         };
-        scan = next;
+        reader = next;
     }
 }
 
 fn main() {
     let first = header();
-    if !io::write_all(libc::STDOUT_FILENO, &first) {
-        os::fail(b"write");
-        return;
+    if write(&first) {
+        run();
     }
-    run();
 }

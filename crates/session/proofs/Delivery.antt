@@ -5,7 +5,7 @@ use mathlib.Core.Path.{_≡_, refl, sym, _∙_, ap, subst, subst⁻¹}
 use mathlib.Core.List.{List, [], _∷_, _++_, append-assoc, append-nil}
 use mathlib.Core.Bool.{Bool, true, false, cond}
 use lib.Dec.{leb}
-use lib.ListN.{length, take, drop, take-append-drop}
+use lib.ListN.{length, take, drop, take-append-drop, length-append}
 use lib.Seq.{take-append-seam, take-all}
 use borrow.Author.Tests.{leb-true, leb-false, le-leb}
 use Rattle.csv.specs.Reading.{readerStart, fed, closed, given, atEnd, records}
@@ -118,6 +118,12 @@ went room x (b ∷ rest) = go (leb (length (x .text) + 31) room) (went room (too
 gave-text : {x : Stand} {before after : List ℕ} {k : Heap} {r : Progress} → Gave x before k after r → take (r .written) after ≡ x .text
 gave-text {x} {before} g =
     rw (g .progress, g .out) (take-append-seam (x .text) (drop (length (x .text)) before))
+
+-- which fits
+pub gave-fits : {x : Stand} {before after : List ℕ} {k : Heap} {r : Progress} → Gave x before k after r → r .written ≤ length after
+gave-fits {x} {before} {r = r} g =
+    let written : r .written ≡ length (x .text) = ap (λ (z : Progress). z .written) (g .progress) in
+    rw (g .out) (omega (arith, written, length-append (x .text) (drop (length (x .text)) before)))
 
 -- ---- the whole input
 

@@ -1,4 +1,4 @@
--- `counter::run` is safe and ends. The loop: scan and tables are what the input so far makes of a fresh heap, and the tables keep their lengths; the measure
+-- `counter::run` is safe and ends. The loop: reader and tables are what the input so far makes of a fresh heap, and the tables keep their lengths; the measure
 -- is the number of reads that are left. Assumes nothing.
 use native.Mathlib.Omega.{arith}
 use Prim.Native.Nat.{ℕ}
@@ -6,7 +6,7 @@ use mathlib.Core.List.{List}
 use mathlib.Core.Path.{_≡_, refl, sym, _∙_}
 use lib.ListN.{length}
 use Rattle.rules.specs.Heap.{tables, fresh}
-use Rattle.counter.proofs.Running.{Running, running-begin, running-further, running-ready}
+use Rattle.counter.proofs.Running.{Running, running-begin, running-further}
 use borrow.Author.Needs.{needs}
 use Rattle.counter.proofs.run.Statement.{statement}
 use Rattle.counter.proofs.run.Tie as tie
@@ -21,18 +21,18 @@ record Sizes (k f n s r q w : List ℕ) : Type 0 where
   control : length w ≡ 2
 
 abbrev Inv-loop : tie.InvT-loop
-Inv-loop kind₀ flags₀ count₀ slots₀ roots₀ queue₀ control₀ scan₀ reads₀ kind flags count slots roots queue control scan reads =
-    Sizes kind flags count slots roots queue control × Running scan (tables kind flags count slots roots queue control)
+Inv-loop kind₀ flags₀ count₀ slots₀ roots₀ queue₀ control₀ reader₀ reads₀ kind flags count slots roots queue control reader reads =
+    Sizes kind flags count slots roots queue control × Running reader (tables kind flags count slots roots queue control)
 
 abbrev μ-loop : tie.MeasureT-loop
-μ-loop kind₀ flags₀ count₀ slots₀ roots₀ queue₀ control₀ scan₀ reads₀ kind flags count slots roots queue control scan reads =
+μ-loop kind₀ flags₀ count₀ slots₀ roots₀ queue₀ control₀ reader₀ reads₀ kind flags count slots roots queue control reader reads =
     reads
 
 loop-holds : tie.Need-loop-holds Inv-loop μ-loop
 unfolding fresh
 loop-holds c = (
   record { kind = refl; flags = refl; count = refl; slots = refl; roots = refl; queue = refl; control = refl },
-  rw (c .scan-start .ensures) running-begin,
+  rw (c .start .ensures) running-begin,
 )
 
 loop-again : tie.Need-loop-again Inv-loop μ-loop
@@ -69,7 +69,7 @@ run-spec =
     (λ c. sym (c .before .before .before .before .before .before .loop .inv .0 .roots))
     (λ c. sym (c .before .before .before .before .before .before .before .loop .inv .0 .queue))
     (λ c. sym (c .before .before .before .before .before .before .before .before .loop .inv .0 .control))
-    (λ c κs. running-ready (c .before .before .before .before .before .before .before .before .loop .inv .1))
+    (λ c κs. tt)
     (λ c. search needs)
     (λ c. search needs)
     (λ c. tt)
