@@ -1,6 +1,6 @@
 #!/usr/bin/env python3
-"""Compares the heap and the program under test with an independent implementation of document 01, and shows by wrong edits
-of the independent one that the comparison sees each of them.
+"""Compares the heap, its reading of lines and the program under test with an independent implementation of document 01 and of
+Q-1 in document 02, and shows by wrong edits of the independent one that the comparison sees each of them.
 
 The last line printed is 'N passed, M failed'.
 """
@@ -24,19 +24,20 @@ import known  # noqa: E402
 
 SEEDS = (1, 2, 3, 4)
 INPUT_SEED = 1
+CONVERSATIONS = 5  # every fifth input is sent by a writer that waits for answers
 SECONDS = 60  # for one comparison; an edit that makes it hang is not caught
 GCC = ["gcc", "-std=c11", "-O1", "-I", HERE]
 STRICT = ["-Wall", "-Wextra", "-Werror", "-g", "-fsanitize=address,undefined"]
 LENIENT = ["-w"]  # a wrong edit may leave something unused
-HEAP = ["heap", "cell", "sound", "refusal", "count", "collect"]
+SHARED = ["heap", "cell", "sound", "refusal", "count", "collect", "lines"]  # by the driver and the program
 
 
-def heap_sources():
-    return [HERE / f"{name}.c" for name in HEAP]
+def shared_sources():
+    return [HERE / f"{name}.c" for name in SHARED]
 
 
 def driver_sources():
-    return sorted(set(HERE.glob("*.c")) - {HERE / "program.c"} - set(heap_sources()))
+    return sorted(set(HERE.glob("*.c")) - {HERE / "program.c"} - set(shared_sources()))
 
 
 def build(target, sources, flags, libraries=()):
@@ -62,7 +63,7 @@ def run_driver(compare, seed):
 
 
 def compare_heaps(folder):
-    compare = build(folder / "compare", [*driver_sources(), *heap_sources()], STRICT, [ARCHIVE])
+    compare = build(folder / "compare", [*driver_sources(), *shared_sources()], STRICT, [ARCHIVE])
     for seed in SEEDS:
         status, report = run_driver(compare, seed)
         print(report, end="")
@@ -93,6 +94,26 @@ def cut_cases(cases):
     return [(name, pieces, expected) for i, (_, (data,), expected) in enumerate(cases) for name, pieces in feeding.pieces_for(data, i)]
 
 
+def conversations(cases):
+    """Inputs of all kinds, each cut in every way, with the output."""
+    short = [(name, [data], expected) for name, (data,), expected in cases if len(data) < 2000]
+    return cut_cases(short[::CONVERSATIONS] + ends_cases())
+
+
+def ends_cases():
+    return [("ends", [data], known.HEADER + answers) for data, answers in known.ENDS]
+
+
+def answers_at_once(command, cases):
+    """Whether each answer is there before the next bit is sent."""
+    for name, pieces, expected in cases:
+        outcome = feeding.converse(command, pieces, feeding.due(pieces, expected, len(known.HEADER)))
+        if outcome != feeding.Outcome(0, expected):
+            print(f"{name}: {outcome}, not {expected[:200]!r}; bits {pieces[:80]!r}")
+            return "program, answers at once", False
+    return "program, answers at once", True
+
+
 def known_cases():
     return [("known", [data], expected) for data, expected in known.known_outputs()]
 
@@ -117,6 +138,7 @@ def compare_programs(reference, command, cases):
     yield no_difference("independent program, known outputs", reference, known_cases())
     yield no_difference("program, known outputs", command, known_cases())
     yield no_difference("program, all inputs, cut in every way", command, cut_cases(cases))
+    yield answers_at_once(command, conversations(cases))
     yield from ends_as_promised(command)
 
 
@@ -161,11 +183,12 @@ def program_edit_caught(objects, target, cases):
 
 
 def edit_caught(path, folder, objects, cases):
+    """By the program's output, the driver or, where the lines are read otherwise, by each of them."""
     name, edited = edited_object(path, folder)
     with_edit = {**objects, name: edited}
-    if name == "program.c":
-        return program_edit_caught(with_edit, folder / path.stem, cases)
-    return heap_edit_caught(with_edit, folder / path.stem)
+    if name in ("program.c", "lines.c") and not program_edit_caught(with_edit, folder / path.stem, cases):
+        return False
+    return name == "program.c" or heap_edit_caught(with_edit, folder / path.stem)
 
 
 def try_edit(path, folder, objects, cases):
@@ -182,7 +205,7 @@ def without_edit(folder, objects, cases):
 
 
 def catch_edits(folder, cases):
-    objects = build_objects(folder, [*driver_sources(), *heap_sources(), HERE / "program.c"])
+    objects = build_objects(folder, [*driver_sources(), *shared_sources(), HERE / "program.c"])
     yield from without_edit(folder, objects, cases)
     paths = sorted((HERE / "edits").glob("*.edit"))
     with concurrent.futures.ThreadPoolExecutor(2) as pool:
@@ -191,7 +214,7 @@ def catch_edits(folder, cases):
 
 def checks(folder):
     yield from compare_heaps(folder)
-    reference = [build(folder / "program", [HERE / "program.c", *heap_sources()], STRICT)]
+    reference = [build(folder / "program", [HERE / "program.c", *shared_sources()], STRICT)]
     cases = whole_cases(reference)
     yield from compare_programs(reference, [PROGRAM], cases)
     edited = folder / "edits"

@@ -3,11 +3,6 @@
 #include "coverage.h"
 #include "random.h"
 
-struct wish {
-    enum op op;
-    size_t arg[3];
-};
-
 static const unsigned weights[MOODS][OPS] = {
     [FILLING] = { [NEW] = 38, [CLEAR] = 8, [COPY] = 8, [LOAD] = 6, [STORE] = 34, [COLLECT] = 2, [START] = 2, [FINISH] = 2 },
     [CUTTING] = { [NEW] = 12, [CLEAR] = 25, [COPY] = 15, [LOAD] = 16, [STORE] = 16, [COLLECT] = 6, [START] = 5, [FINISH] = 5 },
@@ -145,15 +140,21 @@ static void note_situation(enum op op, const struct heap *heap)
         coverage_landmark(QUEUE_FULL);
 }
 
-void knowing_call(struct pair *pair, enum mood mood)
+struct wish knowing_wish(const struct heap *heap, enum mood mood)
 {
     enum op op = some_op(mood);
-    struct wish wish = { .op = chance(80) ? sensible(op, &pair->ours) : op };
-    choose_arguments(&wish, &pair->ours);
+    struct wish wish = { .op = chance(80) ? sensible(op, heap) : op };
+    choose_arguments(&wish, heap);
     if (chance(15))
-        aim_at_running_root(&wish, &pair->ours);
+        aim_at_running_root(&wish, heap);
     if (chance(3))
         wish.arg[below(3)] = wild_number();
+    return wish;
+}
+
+void knowing_call(struct pair *pair, enum mood mood)
+{
+    struct wish wish = knowing_wish(&pair->ours, mood);
     note_situation(wish.op, &pair->ours);
     pair_call(pair, wish.op, wish.arg[0], wish.arg[1], wish.arg[2]);
 }

@@ -7,7 +7,13 @@
 /* What a list of calls is mostly about. */
 enum mood { FILLING, CUTTING, FINALIZING, MOODS };
 
+struct wish {
+    enum op op;
+    size_t arg[3];
+};
+
 /* A call with arguments that suit what the sound heap holds, most of the time. */
+struct wish knowing_wish(const struct heap *heap, enum mood mood);
 void knowing_call(struct pair *pair, enum mood mood);
 
 /* A call on tables that may be damaged: arguments are in range or wild, and nothing is followed. */

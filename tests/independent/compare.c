@@ -22,5 +22,7 @@ int main(int argc, char **argv)
     trees();
     lists();
     noise();
+    bits();
+    readers();
     return coverage_report() ? 0 : 1;
 }

@@ -13,6 +13,17 @@ static const char *const landmark_names[LANDMARKS] = {
     [QUEUE_FULL] = "a queue of N entries",
     [NOISE_SOUND] = "random tables that are sound",
     [NOISE_DAMAGED] = "random tables that are damaged",
+    [LINE_DONE] = "a line whose call is done",
+    [LINE_SIZE] = "a line whose call is refused SIZE",
+    [LINE_DAMAGED] = "a line whose call is refused DAMAGED",
+    [LINE_OTHERWISE_REFUSED] = "a line whose call is refused for another reason",
+    [LINE_NO_CALL] = "a line that names no call",
+    [TAKE_ENDS_WITH_CR] = "a bit that ends with a CR",
+    [TAKE_WITHOUT_ROOM] = "a bit of which nothing is taken, for want of room",
+    [TAKE_FILLS_ROOM] = "a bit of which the rest is not taken, for want of room",
+    [END_ANSWERS] = "an end of the input that answers a line",
+    [END_WITHOUT_ROOM] = "an end of the input without room to answer",
+    [END_WITH_NOTHING] = "an end of the input with nothing held",
 };
 
 #define BIT(refusal) (1u << (refusal))
@@ -53,6 +64,15 @@ void coverage_call(enum op op, struct answer answer)
     met[op][answer.refused]++;
     raise_to(&most_freed[op], answer.freed);
     raise_to(&most_queued[op], answer.queued);
+}
+
+void coverage_reply(struct reply reply)
+{
+    static const enum landmark known[] = { [DONE] = LINE_DONE, [SIZE] = LINE_SIZE, [DAMAGED] = LINE_DAMAGED };
+    unsigned refused = reply.answer.refused;
+    if (refused < REFUSALS)
+        coverage_call(reply.op, reply.answer);
+    coverage_landmark(refused <= DAMAGED ? known[refused] : refused < REFUSALS ? LINE_OTHERWISE_REFUSED : LINE_NO_CALL);
 }
 
 void coverage_landmark(enum landmark landmark)

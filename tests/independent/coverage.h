@@ -2,9 +2,7 @@
 #ifndef COVERAGE_H
 #define COVERAGE_H
 
-#include "heap.h"
-
-#include <stdbool.h>
+#include "lines.h"
 
 extern const char *const op_names[OPS];
 
@@ -18,10 +16,22 @@ enum landmark {
     QUEUE_FULL,
     NOISE_SOUND,
     NOISE_DAMAGED,
+    LINE_DONE,
+    LINE_SIZE,
+    LINE_DAMAGED,
+    LINE_OTHERWISE_REFUSED,
+    LINE_NO_CALL,
+    TAKE_ENDS_WITH_CR,
+    TAKE_WITHOUT_ROOM,
+    TAKE_FILLS_ROOM,
+    END_ANSWERS,
+    END_WITHOUT_ROOM,
+    END_WITH_NOTHING,
     LANDMARKS
 };
 
 void coverage_call(enum op op, struct answer answer);
+void coverage_reply(struct reply reply);
 void coverage_landmark(enum landmark landmark);
 
 /* Prints the counts; true if nothing is lacking. */

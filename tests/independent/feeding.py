@@ -1,10 +1,12 @@
-"""Runs a program that reads standard input, and hands the input over in pieces."""
+"""Runs a program that reads standard input, and hands the input over in pieces; the writer waits for the answers or not."""
 import fcntl
 import os
 import random
 import re
+import select
 import struct
 import subprocess
+import sys
 import tempfile
 import termios
 import time
@@ -66,6 +68,45 @@ def run(command, pieces):
         write_pieces(write_end, process, pieces)
         os.close(write_end)
         return Outcome(ended(process), contents(output), contents(errors))
+
+
+def read_until(pipe, output, least):
+    """The output with what has come by now; while it is shorter than that, more is waited for."""
+    end = time.monotonic() + PATIENCE
+    while select.select([pipe], [], [], max(0, end - time.monotonic()) if len(output) < least else 0)[0]:
+        more = os.read(pipe, 1 << 16)
+        if not more:
+            break
+        output += more
+    return output
+
+
+def due(pieces, output, header):
+    """For each piece, the least and the most of the output that may be there before the next is sent: the answers to the lines
+    that have ended, behind a header of that length, which may come alone."""
+    ends = [header, *(m.end() for m in re.compile(b"\r\n").finditer(output, header))]
+    sent = b""
+    for piece in pieces:
+        sent += piece
+        most = ends[sent.count(b"\r\n")]
+        yield 0 if most == header else most, most
+
+
+def converse(command, pieces, due):
+    """How the program ended and what it wrote, if each piece is sent only when what is due before has come. It is killed
+    where something is late, or comes too soon."""
+    with tempfile.TemporaryFile() as errors, subprocess.Popen(
+            command, stdin=subprocess.PIPE, stdout=subprocess.PIPE, stderr=errors, bufsize=0) as process:
+        output, pipe = b"", process.stdout.fileno()
+        for piece, (least, most) in zip(pieces, due):
+            write_pieces(process.stdin.fileno(), process, [piece])
+            output = read_until(pipe, output, least)
+            if not least <= len(output) <= most:
+                process.kill()
+                break
+        process.stdin.close()
+        output = read_until(pipe, output, sys.maxsize)
+        return Outcome(ended(process), output, contents(errors))
 
 
 def whole(data, rng):

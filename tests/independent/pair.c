@@ -34,6 +34,16 @@ void pair_sequence(const char *part)
     place.step = 0;
 }
 
+unsigned long pair_step(void)
+{
+    return ++place.step;
+}
+
+bool pair_lends_null(void)
+{
+    return place.sequence % 2 == 0;
+}
+
 /* The heap under test isn't seen by AddressSanitizer: guard entries show what it writes outside. */
 static uint16_t *guarded_room(size_t len)
 {
@@ -44,13 +54,12 @@ static uint16_t *guarded_room(size_t len)
     return room;
 }
 
-/* An empty table is null in every second sequence. */
 struct pair pair_make(const size_t len[TABLES])
 {
     struct pair pair = { .ours = exact_heap(len) };
     for (int t = 0; t < TABLES; t++) {
         pair.guarded[t] = guarded_room(len[t]);
-        bool null = len[t] == 0 && place.sequence % 2 == 0;
+        bool null = len[t] == 0 && pair_lends_null();
         *table_of(&pair.theirs, t) = (struct table){ null ? NULL : pair.guarded[t] + GUARDS, len[t] };
     }
     return pair;
@@ -90,13 +99,22 @@ static void print_answer(const char *who, struct answer answer)
     printf("  %s answers refused %u, freed %u, queued %u, cell %u\n", who, answer.refused, answer.freed, answer.queued, answer.cell);
 }
 
-/* Prints where and with what call, and then what differs, which the caller adds in words. */
-static void print_event(const struct event *event)
+void pair_tell_place(void)
 {
-    printf("difference: seed %llu, part %s, sequence %lu, call %lu: %s %zu, %zu, %zu\n", place.seed, place.part,
-           place.sequence, place.step, op_names[event->op], event->arg[0], event->arg[1], event->arg[2]);
+    printf("difference: seed %llu, part %s, sequence %lu, call %lu: ", place.seed, place.part, place.sequence, place.step);
+}
+
+/* With what call, and what differs after it; nothing if nothing does. */
+static void check(const struct event *event, const char *difference)
+{
+    if (difference == NULL)
+        return;
+    pair_tell_place();
+    printf("%s %zu, %zu, %zu\n", op_names[event->op], event->arg[0], event->arg[1], event->arg[2]);
     print_answer("the independent heap", event->ours);
     print_answer("the heap under test", event->theirs);
+    printf("  %s\n", difference);
+    exit(1);
 }
 
 static bool guards_stand(const uint16_t *room, size_t len)
@@ -107,46 +125,50 @@ static bool guards_stand(const uint16_t *room, size_t len)
     return true;
 }
 
-static void compare_table(struct pair *pair, enum table_number t, const struct event *event)
+/* In words, or null. */
+static const char *entry_difference(struct pair *pair, enum table_number t)
 {
+    static char words[120];
     const struct table *ours = table_of(&pair->ours, t), *theirs = table_of(&pair->theirs, t);
     size_t i = 0;
     if (ours->len == 0 || memcmp(ours->at, theirs->at, ours->len * sizeof *ours->at) == 0)
-        return;
+        return NULL;
     while (ours->at[i] == theirs->at[i])
         i++;
-    print_event(event);
-    printf("  first differing entry: %s %zu, independent %u, under test %u\n", table_names[t], i, ours->at[i], theirs->at[i]);
-    exit(1);
+    snprintf(words, sizeof words, "first differing entry: %s %zu, independent %u, under test %u", table_names[t], i, ours->at[i], theirs->at[i]);
+    return words;
 }
 
-static void compare_answers(const struct event *event)
+static const char *guard_difference(struct pair *pair, enum table_number t)
 {
-    if (memcmp(&event->ours, &event->theirs, sizeof event->ours) == 0)
-        return;
-    print_event(event);
-    printf("  the answers differ\n");
-    exit(1);
-}
-
-static void check_guards(struct pair *pair, enum table_number t, const struct event *event)
-{
+    static char words[120];
     if (guards_stand(pair->guarded[t], table_of(&pair->theirs, t)->len))
-        return;
-    print_event(event);
-    printf("  the heap under test wrote outside the table %s\n", table_names[t]);
-    exit(1);
+        return NULL;
+    snprintf(words, sizeof words, "the heap under test wrote outside the table %s", table_names[t]);
+    return words;
+}
+
+const char *pair_difference(struct pair *pair)
+{
+    const char *difference = NULL;
+    for (int t = 0; t < TABLES && difference == NULL; t++)
+        difference = entry_difference(pair, t);
+    for (int t = 0; t < TABLES && difference == NULL; t++)
+        difference = guard_difference(pair, t);
+    return difference;
+}
+
+static const char *answer_difference(const struct event *event)
+{
+    return memcmp(&event->ours, &event->theirs, sizeof event->ours) == 0 ? NULL : "the answers differ";
 }
 
 struct answer pair_call(struct pair *pair, enum op op, size_t a, size_t b, size_t c)
 {
-    place.step++;
+    pair_step();
     struct event event = { op, { a, b, c }, call(&pair->ours, op, a, b, c), tested_call(&pair->theirs, op, a, b, c) };
-    for (int t = 0; t < TABLES; t++)
-        compare_table(pair, t, &event);
-    compare_answers(&event);
-    for (int t = 0; t < TABLES; t++)
-        check_guards(pair, t, &event);
+    check(&event, pair_difference(pair));
+    check(&event, answer_difference(&event));
     coverage_call(op, event.ours);
     return event.ours;
 }

@@ -16,12 +16,24 @@ struct pair {
 void pair_seed(unsigned long long seed);
 void pair_sequence(const char *part);
 
+/* Begins the next call of the sequence, and says its number. */
+unsigned long pair_step(void);
+
+/* Begins the report of a difference with the place that the comparison has reached. */
+void pair_tell_place(void);
+
+/* Whether what is empty is lent as a null pointer: in every second sequence. */
+bool pair_lends_null(void);
+
 struct pair pair_make(const size_t len[TABLES]);
 struct pair pair_of(size_t n);
 void pair_free(struct pair *pair);
 
 /* Hands the tables of `ours`, as somebody has written them, to `theirs` too. */
 void pair_share(struct pair *pair);
+
+/* What differs between the tables, or what is written outside them, in words; null if nothing. */
+const char *pair_difference(struct pair *pair);
 
 /* Ends the program, with a report, if what both heaps did isn't what document 01 says. */
 void demand(bool holds, const char *what);

@@ -11,5 +11,7 @@ void damage(void);  /* a sound heap with a single clause broken */
 void lengths(void); /* tables whose lengths don't fit */
 void lists(void);   /* long random lists of calls */
 void noise(void);   /* random tables, sound and not */
+void bits(void);    /* lines that arrive in bits, cut in every way */
+void readers(void); /* readers with any numbers in them */
 
 #endif

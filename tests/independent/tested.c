@@ -1,7 +1,5 @@
 #include "tested.h"
 
-#include "../../include/vekszalir.h"
-
 #define LENT                                                                                                  \
     heap->kind.at, heap->kind.len, heap->flags.at, heap->flags.len, heap->count.at, heap->count.len,          \
         heap->slots.at, heap->slots.len, heap->roots.at, heap->roots.len, heap->queue.at, heap->queue.len,    \
@@ -35,4 +33,14 @@ struct answer tested_call(struct heap *heap, enum op op, size_t a, size_t b, siz
 {
     vek_answer answer = pass_on(heap, op, a, b, c);
     return (struct answer){ answer.refused, answer.freed, answer.queued, answer.cell };
+}
+
+vek_progress tested_take(struct heap *heap, vek_reader reader, const struct bytes *in, const struct bytes *out)
+{
+    return vek_take(LENT, reader, bytes_lent(in), in->len, bytes_lent(out), out->len);
+}
+
+vek_progress tested_end(struct heap *heap, vek_reader reader, const struct bytes *out)
+{
+    return vek_end(LENT, reader, bytes_lent(out), out->len);
 }

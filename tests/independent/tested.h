@@ -2,8 +2,12 @@
 #ifndef TESTED_H
 #define TESTED_H
 
+#include "../../include/vekszalir.h"
+#include "bytes.h"
 #include "heap.h"
 
 struct answer tested_call(struct heap *heap, enum op op, size_t a, size_t b, size_t c);
+vek_progress tested_take(struct heap *heap, vek_reader reader, const struct bytes *in, const struct bytes *out);
+vek_progress tested_end(struct heap *heap, vek_reader reader, const struct bytes *out);
 
 #endif

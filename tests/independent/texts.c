@@ -1,0 +1,95 @@
+#include "texts.h"
+
+#include "choice.h"
+#include "random.h"
+
+#include <stdio.h>
+#include <stdlib.h>
+#include <string.h>
+
+enum { LINE_ROOM = 120 };
+
+static const char *const ends[] = { "", "\r\n", "\r", "\n", "\r\n\r\n", "\r\n\r", "\r\r\n" };
+static const int widths[] = { 1, 1, 1, 2, 5 };
+static const char spoilers[] = "0123456789/:,,,,\r\r\n\n \"-x\0\377"; /* the NUL at its end is one of them too */
+
+void text_free(struct text *text)
+{
+    free((char *)text->at);
+}
+
+static void append(struct text *text, const char *bytes, size_t len)
+{
+    char *at = realloc((char *)text->at, text->len + len + 1); /* never of 0 bytes */
+    memcpy(at + text->len, bytes, len);
+    *text = (struct text){ at, text->len + len };
+}
+
+/* A byte is replaced, put in or left out. */
+static size_t spoil(char line[LINE_ROOM], size_t len)
+{
+    size_t at = below(len), kept = at + below(2), to = at + below(2);
+    char spoiler = spoilers[below(sizeof spoilers)];
+    memmove(line + to, line + kept, len - kept);
+    if (to > at)
+        line[at] = spoiler;
+    return len - kept + to;
+}
+
+static int some_width(void)
+{
+    return widths[below(sizeof widths / sizeof *widths)];
+}
+
+static size_t call_line(char line[LINE_ROOM], const struct heap *heap, enum mood mood)
+{
+    struct wish wish = knowing_wish(heap, mood);
+    for (size_t i = arguments_of(wish.op); i < 3 && !chance(3); i++)
+        wish.arg[i] = 0;
+    return sprintf(line, "%0*d,%0*zu,%0*zu,%0*zu", some_width(), wish.op, some_width(), wish.arg[0], some_width(), wish.arg[1],
+                   some_width(), wish.arg[2]);
+}
+
+/* The line is answered here as well, so that the next one suits what the heap holds then. */
+static void append_call(struct text *text, struct heap *heap, enum mood mood)
+{
+    char line[LINE_ROOM];
+    size_t len = call_line(line, heap, mood);
+    if (chance(12))
+        len = spoil(line, len);
+    answer_line(heap, (struct text){ line, len });
+    append(text, line, len);
+}
+
+static struct heap copy_of(struct heap *heap)
+{
+    size_t len[TABLES];
+    fitting_lengths(len, heap->kind.len);
+    struct heap copy = exact_heap(len);
+    copy_tables(&copy, heap);
+    return copy;
+}
+
+struct text random_text(struct heap *heap, size_t lines)
+{
+    struct heap copy = copy_of(heap);
+    struct text text = { NULL, 0 };
+    enum mood mood = below(MOODS);
+    const char *end = ends[below(sizeof ends / sizeof *ends)];
+    for (size_t i = 0; i < lines; i++) {
+        append(&text, "\r\n", i == 0 ? 0 : 2);
+        append_call(&text, &copy, chance(90) ? mood : below(MOODS));
+    }
+    append(&text, end, strlen(end));
+    exact_heap_free(&copy);
+    return text;
+}
+
+struct text repeated_text(const char *pattern, size_t len, const char *behind)
+{
+    struct text text = { malloc(len + 1), len };
+    for (size_t i = 0; i < len; i++)
+        ((char *)text.at)[i] = pattern[i % strlen(pattern)];
+    append(&text, behind, strlen(behind));
+    return text;
+}
