@@ -8,8 +8,9 @@ SOURCES := $(shell find crates crates.txt -type f)
 PROGRAM = target/bin/counter
 ARCHIVE = target/staticlib/libheap_c.a
 HOST = target/host
+SLOW_LINE = target/slow_line
 
-.PHONY: help run host test install uninstall
+.PHONY: help run host slow-line test install uninstall
 
 help: ## this list
 	@awk -F ':.*## ' 'NF == 2 && /^[a-z]/ { printf "make %-9s  %s\n", $$1, $$2 }' Makefile
@@ -20,6 +21,9 @@ run: $(PROGRAM) ## the program, on standard input: make -s run < examples/basket
 host: $(HOST) ## the example of an engine in C, examples/host.c
 	@$(HOST)
 
+slow-line: $(SLOW_LINE) ## the example of calls that arrive in bits, examples/slow_line.c: make -s slow-line < examples/basket.csv
+	@$(SLOW_LINE)
+
 test: ## the whole gate
 	@.ci/run
 
@@ -29,7 +33,7 @@ $(ARCHIVE): PROOF = staticlib heap_c
 $(PROGRAM) $(ARCHIVE): $(SOURCES)
 	@tools/prove $(PROOF) && touch -c $@
 
-$(HOST): examples/host.c include/vekszalir.h $(ARCHIVE)
+$(HOST) $(SLOW_LINE): target/%: examples/%.c include/vekszalir.h $(ARCHIVE)
 	@$(CC) -std=c11 -O2 -Wall -Wextra -Iinclude -o $@ $< $(ARCHIVE)
 
 install: $(ARCHIVE) ## the archive, its header and a pkg-config file, below PREFIX (/usr/local); DESTDIR goes in front

@@ -5,6 +5,8 @@
 - The header by itself is valid C and C++, and names each refusal of its list and no other number; the archive has
   nothing that a call could write and another call read.
 - examples/host.c, as C and as C++, prints what examples/host.txt says, with the header's version for @VERSION@.
+- examples/slow_line.c, as C and as C++, answers each line before the next bit of its input is sent, and in all as the
+  program does, without the header; where it can't read or write it says so and fails.
 - `make install` into an empty folder gives a package of the header's version that the example builds with, by
   pkg-config alone; `make uninstall` leaves no file there.
 - `make` lists every target. `make run` writes what the program writes, and beside it one line for each crate; a crate
@@ -21,8 +23,17 @@ import sys
 import tempfile
 
 TOP = pathlib.Path(__file__).resolve().parent.parent
+sys.path.insert(0, str(TOP / "tests" / "independent"))
+sys.dont_write_bytecode = True  # nothing is left in the source folders
+import failing  # noqa: E402
+import feeding  # noqa: E402
+import known  # noqa: E402
+
 ARCHIVE = TOP / "target" / "staticlib" / "libheap_c.a"
+PROGRAM = TOP / "target" / "bin" / "counter"
 EXAMPLE = TOP / "examples" / "host.c"
+SLOW_LINE = TOP / "examples" / "slow_line.c"
+BASKET = TOP / "examples" / "basket.csv"
 INCLUDE = f"-I{TOP / 'include'}"
 HEADER = (TOP / "include" / "vekszalir.h").read_text()
 WARNINGS = ["-Wall", "-Wextra", "-Wpedantic", "-Werror"]
@@ -51,12 +62,16 @@ def make(*words, cwd=TOP, **settings):
     return run("make", "-s", *words, cwd=cwd, **settings)
 
 
+def build(program, compiler, source, *flags):
+    return run(*compiler, *WARNINGS, "-g", "-O1", "-o", program, source, "-x", "none", *flags)
+
+
 def built_and_run(folder, compiler, source, *flags):
     """What a program prints, or what the compiler says, and whether all went well."""
     program = folder / "program"
-    build = run(*compiler, *WARNINGS, "-g", "-O1", "-o", program, source, "-x", "none", *flags)
-    if build.returncode != 0:
-        return build.stderr, False
+    built = build(program, compiler, source, *flags)
+    if built.returncode != 0:
+        return built.stderr, False
     done = run(program)
     return done.stdout + done.stderr, done.returncode == 0
 
@@ -109,6 +124,52 @@ def examples(folder):
     lent = ["-fsanitize=address,undefined", INCLUDE, ARCHIVE]
     yield example("example in C", folder, C, *lent)
     yield example("example in C++", folder, CXX, *lent)
+
+
+def answers(data):
+    """What the program answers to the lines of an input, without its header."""
+    said = subprocess.run([PROGRAM], input=data, capture_output=True, check=True)
+    return said.stdout.removeprefix(known.HEADER)
+
+
+def conversations():
+    """The basket and short inputs with ends of every kind, and lines of the longest bits, cut in every way, with the answers."""
+    data = [BASKET.read_bytes(), BASKET.read_bytes()[:-1], 40 * b"6,0,0,0\r\n", 100 * b"1,0,1,0 " + b"\r\n6,0,0,0", *(ends for ends, _ in known.ENDS)]
+    return [(pieces, answers(whole)) for i, whole in enumerate(data) for _, pieces in feeding.pieces_for(whole, i)]
+
+
+def wrong_conversation(program):
+    """What the example says to the first input that it doesn't answer as it should."""
+    for pieces, expected in conversations():
+        outcome = feeding.converse([program], pieces, feeding.due(pieces, expected, 0))
+        if outcome != feeding.Outcome(0, expected):
+            return f"{outcome}, not {expected[:200]!r}; bits {pieces[:80]!r}"
+    return None
+
+
+def failures(program):
+    """How the example ends, and what it says, where it can't read or can't write."""
+    with failing.opened("/", os.O_RDONLY) as folder:
+        yield "read", failing.run([program], folder, subprocess.DEVNULL)
+    with failing.opened("/dev/full", os.O_WRONLY) as full:
+        for data in (BASKET.read_bytes(), b"6,0,0,0"):
+            with failing.file_of(data) as lines:
+                yield "write", failing.run([program], lines, full)
+
+
+def slow_lines(folder):
+    for language, compiler in (("C", C), ("C++", CXX)):
+        program = folder / "slow_line"
+        built = build(program, compiler, SLOW_LINE, "-fsanitize=address,undefined", INCLUDE, ARCHIVE)
+        yield f"slow line in {language}", built.stderr, built.returncode == 0
+        if built.returncode == 0:
+            wrong = wrong_conversation(program)
+            yield f"slow line in {language}, answers at once", wrong or "as the program", wrong is None
+            told = [status == 1 and said.startswith(f"{what}: ".encode()) for what, (status, said) in failures(program)]
+            yield f"slow line in {language}, failures", "told" if all(told) else str(told), all(told)
+    with open(BASKET, "rb") as lines:
+        made = make("slow-line", stdin=lines, text=False)
+    yield "make slow-line", made.stderr.decode(), made.returncode == 0 and made.stdout == answers(BASKET.read_bytes())
 
 
 def installed(folder):
@@ -201,9 +262,9 @@ def small(folder):
 
 
 def main():
-    subprocess.run(["make", ARCHIVE.relative_to(TOP)], cwd=TOP, check=True)
+    subprocess.run(["make", *(path.relative_to(TOP) for path in (ARCHIVE, PROGRAM))], cwd=TOP, check=True)
     passed = failed = 0
-    for tests in (c_tests, header, stateless, examples, installed, targets, program, small):
+    for tests in (c_tests, header, stateless, examples, slow_lines, installed, targets, program, small):
         with tempfile.TemporaryDirectory() as folder:
             for name, said, well in tests(pathlib.Path(folder)):
                 passed, failed = passed + well, failed + (not well)

@@ -16,10 +16,11 @@ enum { END_ROOM_MAX = 40 };
 
 /* Good lines, lines that name no call, CR and LF in all places, and ends of every kind. */
 static const char *const short_inputs[] = {
-    "", "\r", "\n", "\r\n", "\n\r", "\r\r\n", "\r\n\r\n", "\r\n\r", "\n\r\n", "1,0,1,0", "1,0,1,0\r", "1,0,1,0\n", "1,0,1,0\r\r\n",
-    "\r1,0,1,0\r\n6,0,0,0", "1,0,1,0\r1,1,1,0\r\n2,0,0,0\r\n", "1,0,1,0\n1,1,1,0\r\n2,0,0,0", "1,0,1,0\r\n\r\n2,0,0,0\r\n\r",
-    "1,0,1,1\r\n2,0,0,0\r\n7,3,0,0\r\n8,0,0,0", "00001,63,02,0\r\n3,0,63,0\r\n2,63,0,0\r\n6,0,0", "1,0,1,0\r\n5,0,7,0\r\n2,0,0,0\r\n6,0,0,0\r\n",
-    "9,0,0,0\r\n0,0,0,0\r\n8,0,0,1\r\n", "257,0,1,0\r\n264,0,0,0", "1,0,1,/\r\n2,1:,0,0\r\n", "1,65535,1,0\r\n1,65536,1,0\r\n1,0,1,000000", "1,0,1,0,\r\n1,0,1\r\n,,,\r\n 6,0,0,0\r\n6,0,0,0 ",
+    "", "\r", "\n", "\r\n", "\n\r", "\r\r\n", "\r\n\r\n", "\r\n\r", "\n\r\n", "1,0,1,0", "1,0,1,0\r", "1,0,1,0\n",
+    "1,0,1,0\r\r\n", "\r1,0,1,0\r\n6,0,0,0", "1,0,1,0\r1,1,1,0\r\n2,0,0,0\r\n", "1,0,1,0\n1,1,1,0\r\n2,0,0,0",
+    "1,0,1,0\r\n\r\n2,0,0,0\r\n\r", "1,0,1,1\r\n2,0,0,0\r\n7,3,0,0\r\n8,0,0,0", "00001,63,02,0\r\n3,0,63,0\r\n2,63,0,0\r\n6,0,0",
+    "1,0,1,0\r\n5,0,7,0\r\n2,0,0,0\r\n6,0,0,0\r\n", "9,0,0,0\r\n0,0,0,0\r\n8,0,0,1\r\n", "257,0,1,0\r\n264,0,0,0",
+    "1,0,1,/\r\n2,1:,0,0\r\n", "1,65535,1,0\r\n1,65536,1,0\r\n1,0,1,000000", "1,0,1,0,\r\n1,0,1\r\n,,,\r\n 6,0,0,0\r\n6,0,0,0 ",
 };
 
 enum { SHORT_INPUTS = sizeof short_inputs / sizeof *short_inputs };
@@ -106,10 +107,15 @@ static void byte_by_byte(size_t cells)
 }
 
 /* Wherever the counting of a long line's bytes, digits or fields might begin anew, what follows looks like a call. */
-static const char *const patterns[] = { "0", "1", ",", "1,0,1,0,", "0,", " ", "x", "\r", "\n", "1,0,1,0\r", "6,0,0,0", "6,0,0,0\n" };
-static const char *const behind[] = { "", "6,0,0,0\r\n", "1,0,1,0\r\n6,0,0,0\r\n", ",0,0,0\r\n", ",6,0,0,0\r\n1,0,1,0", "\r6,0,0,0\r\n" };
-static const size_t lengths_of_lines[] = { 7, 8, 56, 57, 58, 62, 63, 64, 65, 66, 128, 255, 256, 257, 1024 };
-static const size_t very_long[] = { 65534, 65535, 65536, 65537, 100000, 131072 };
+static const char *const patterns[] = {
+    "0", "1", ",", "1,0,1,0,", "0,", " ", "x", "\r", "\n", "1,0,1,0\r", "6,0,0,0", "6,0,0,0\n",
+};
+static const char *const behind[] = {
+    "", "6,0,0,0\r\n", "1,0,1,0\r\n6,0,0,0\r\n", ",0,0,0\r\n", ",6,0,0,0\r\n1,0,1,0", "\r6,0,0,0\r\n",
+};
+static const struct {
+    size_t from, to;
+} spans[] = { { 1, 8 }, { 54, 70 }, { 128, 128 }, { 248, 260 }, { 65528, 65540 }, { 100000, 100000 } };
 
 enum { PATTERNS = sizeof patterns / sizeof *patterns, BEHIND = sizeof behind / sizeof *behind };
 
@@ -134,19 +140,20 @@ static void long_after_good(const char *pattern, size_t len)
     text_free(&rest);
 }
 
+static void lines_of(size_t len)
+{
+    for (size_t p = 0; p < PATTERNS; p++) {
+        for (size_t b = 0; b < BEHIND; b++)
+            long_line(patterns[p], len, behind[b]);
+        long_after_good(patterns[p], len);
+    }
+}
+
 static void long_lines(void)
 {
-    for (size_t i = 0; i < sizeof lengths_of_lines / sizeof *lengths_of_lines; i++)
-        for (size_t p = 0; p < PATTERNS; p++) {
-            for (size_t b = 0; b < BEHIND; b++)
-                long_line(patterns[p], lengths_of_lines[i], behind[b]);
-            long_after_good(patterns[p], lengths_of_lines[i]);
-        }
-    for (size_t i = 0; i < sizeof very_long / sizeof *very_long; i++)
-        for (size_t p = 0; p < PATTERNS; p++) {
-            long_line(patterns[p], very_long[i], behind[(i + p) % BEHIND]);
-            long_after_good(patterns[p], very_long[i]);
-        }
+    for (size_t i = 0; i < sizeof spans / sizeof *spans; i++)
+        for (size_t len = spans[i].from; len <= spans[i].to; len++)
+            lines_of(len);
 }
 
 static struct pair damaged(size_t cells)

@@ -36,7 +36,8 @@ bool reader_is_empty(vek_reader reader)
 static struct event begin(const char *entry, struct text handed, size_t room)
 {
     uint8_t fill = 128 + pair_step() % 128;
-    return (struct event){ entry, handed, bytes_of(handed), bytes_filled(room, fill), malloc(room + REPLY_MAX + 1), { 0 }, { .taken = 0 } };
+    return (struct event){ .entry = entry, .handed = handed, .in = bytes_of(handed), .out = bytes_filled(room, fill),
+                           .owed_out = malloc(room + REPLY_MAX + 1) };
 }
 
 static bool handed_stays(const struct event *event)
@@ -79,17 +80,19 @@ static void print_bytes(const char *what, const void *at, size_t len)
     printf(len > 120 ? " and so on\n" : "\n");
 }
 
+/* `out` is shown as far as it goes. */
 static void report(const struct event *event, const struct feed *feed, const char *what)
 {
-    const struct whole *whole = &feed->whole;
+    const struct text *input = &feed->whole.input;
+    size_t written = event->said.written < event->out.len ? event->said.written : event->out.len;
     pair_tell_place();
     printf("%s of %zu bytes with room for %zu\n", event->entry, event->handed.len, event->out.len);
-    printf("  owed: taken %zu, written %zu; said: taken %zu, written %zu\n", event->owed.taken, event->owed.written, event->said.taken, event->said.written);
-    print_bytes("input", whole->input.at, whole->input.len);
-    printf("  of which %zu bytes are taken and %zu of %zu lines answered\n", whole->taken, whole->answered, whole->count);
+    printf("  owed: taken %zu, written %zu\n", event->owed.taken, event->owed.written);
+    printf("  said: taken %zu, written %zu\n", event->said.taken, event->said.written);
+    print_bytes("input", input->at, input->len);
     print_bytes("handed in", event->handed.at, event->handed.len);
     print_bytes("owed", event->owed_out, event->owed.written);
-    print_bytes("written", event->out.len == 0 ? NULL : bytes_lent(&event->out), event->said.written < event->out.len ? event->said.written : event->out.len);
+    print_bytes("written", bytes_lent(&event->out), written);
     printf("  %s\n", what);
     exit(1);
 }

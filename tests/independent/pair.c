@@ -135,7 +135,8 @@ static const char *entry_difference(struct pair *pair, enum table_number t)
         return NULL;
     while (ours->at[i] == theirs->at[i])
         i++;
-    snprintf(words, sizeof words, "first differing entry: %s %zu, independent %u, under test %u", table_names[t], i, ours->at[i], theirs->at[i]);
+    snprintf(words, sizeof words, "first differing entry: %s %zu, independent %u, under test %u", table_names[t], i, ours->at[i],
+             theirs->at[i]);
     return words;
 }
 

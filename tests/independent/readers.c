@@ -30,7 +30,8 @@ static void check(bool holds, vek_reader reader, const char *what)
     if (holds)
         return;
     pair_tell_place();
-    printf("a reader of %u, %u, %u, %u, %u, %u, %u: %s\n", reader.cr, reader.field, reader.digits, reader.a, reader.b, reader.c, reader.d, what);
+    printf("a reader of %u, %u, %u, %u, %u, %u, %u: %s\n", reader.cr, reader.field, reader.digits, reader.a, reader.b, reader.c,
+           reader.d, what);
     exit(1);
 }
 
@@ -65,7 +66,8 @@ static vek_reader end(struct pair *pair, vek_reader reader, size_t room)
     vek_progress said = tested_end(&pair->theirs, reader, &out);
     bool stays = memcmp(&said.reader, &reader, sizeof reader) == 0;
     pair_step();
-    check(said.taken == 0 && said.written <= (room < REPLY_MAX ? 0 : REPLY_MAX), reader, "vek_end takes something or writes too much");
+    check(said.taken == 0, reader, "vek_end takes something");
+    check(said.written <= (room < REPLY_MAX ? 0 : REPLY_MAX), reader, "vek_end writes too much");
     check(reader_is_empty(said.reader) || (room < REPLY_MAX && stays), reader, "something is held after the end");
     check(rest_stays(&out, said.written), reader, "vek_end writes behind what it says");
     bytes_free(&out);

@@ -44,10 +44,11 @@ static int some_width(void)
 static size_t call_line(char line[LINE_ROOM], const struct heap *heap, enum mood mood)
 {
     struct wish wish = knowing_wish(heap, mood);
+    size_t *arg = wish.arg, op = chance(3) ? wild_number() : wish.op;
     for (size_t i = arguments_of(wish.op); i < 3 && !chance(3); i++)
-        wish.arg[i] = 0;
-    return sprintf(line, "%0*d,%0*zu,%0*zu,%0*zu", some_width(), wish.op, some_width(), wish.arg[0], some_width(), wish.arg[1],
-                   some_width(), wish.arg[2]);
+        arg[i] = 0;
+    return sprintf(line, "%0*zu,%0*zu,%0*zu,%0*zu", some_width(), op, some_width(), arg[0], some_width(), arg[1],
+                   some_width(), arg[2]);
 }
 
 /* The line is answered here as well, so that the next one suits what the heap holds then. */
@@ -55,7 +56,7 @@ static void append_call(struct text *text, struct heap *heap, enum mood mood)
 {
     char line[LINE_ROOM];
     size_t len = call_line(line, heap, mood);
-    if (chance(12))
+    while (len > 1 && chance(12))
         len = spoil(line, len);
     answer_line(heap, (struct text){ line, len });
     append(text, line, len);
