@@ -95,13 +95,9 @@ def cut_cases(cases):
 
 
 def conversations(cases):
-    """Inputs of all kinds, each cut in every way, with the output."""
-    short = [(name, [data], expected) for name, (data,), expected in cases if len(data) < 2000]
-    return cut_cases(short[::CONVERSATIONS] + ends_cases())
-
-
-def ends_cases():
-    return [("ends", [data], known.HEADER + answers) for data, answers in known.ENDS]
+    """Inputs of all kinds, and above all those with ends of every kind, each cut in every way, with the output."""
+    ends = [("ends", [data], known.HEADER + answers) for data, answers in known.ENDS]
+    return cut_cases(cases[::CONVERSATIONS] + ends)
 
 
 def answers_at_once(command, cases):

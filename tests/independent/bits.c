@@ -106,7 +106,8 @@ static void byte_by_byte(size_t cells)
     pair_free(&pair);
 }
 
-/* Wherever the counting of a long line's bytes, digits or fields might begin anew, what follows looks like a call. */
+/* So many bytes, and more behind them: wherever the counting of a long line's bytes, digits or fields might begin anew, what
+   follows looks like a call. */
 static const char *const patterns[] = {
     "0", "1", ",", "1,0,1,0,", "0,", " ", "x", "\r", "\n", "1,0,1,0\r", "6,0,0,0", "6,0,0,0\n",
 };
@@ -119,33 +120,22 @@ static const struct {
 
 enum { PATTERNS = sizeof patterns / sizeof *patterns, BEHIND = sizeof behind / sizeof *behind };
 
-static void long_line(const char *pattern, size_t len, const char *rest)
+static void long_line(struct text input)
 {
     pair_sequence("long lines");
     struct pair pair = used(3, 5);
-    struct text input = repeated_text(pattern, len, rest);
     hand_over_cut(&pair, input, below(30), random_manner());
     text_free(&input);
     pair_free(&pair);
 }
 
-/* A good line at first, which the rest of the line spoils. */
-static void long_after_good(const char *pattern, size_t len)
-{
-    struct text rest = repeated_text(pattern, len, "\r\n6,0,0,0\r\n");
-    char *joined = calloc(rest.len + 1, 1);
-    memcpy(joined, rest.at, rest.len);
-    long_line("1,0,1,0", 7, joined);
-    free(joined);
-    text_free(&rest);
-}
-
+/* The last of each pattern begins with a good line, which the rest spoils. */
 static void lines_of(size_t len)
 {
     for (size_t p = 0; p < PATTERNS; p++) {
         for (size_t b = 0; b < BEHIND; b++)
-            long_line(patterns[p], len, behind[b]);
-        long_after_good(patterns[p], len);
+            long_line(repeated_text("", patterns[p], len, behind[b]));
+        long_line(repeated_text("1,0,1,0", patterns[p], len, "\r\n6,0,0,0\r\n"));
     }
 }
 

@@ -4,6 +4,8 @@
 
 #include "lines.h"
 
+#include <stdbool.h>
+
 extern const char *const op_names[OPS];
 
 /* Situations that the answers of a single call don't tell. */

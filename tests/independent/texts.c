@@ -86,11 +86,13 @@ struct text random_text(struct heap *heap, size_t lines)
     return text;
 }
 
-struct text repeated_text(const char *pattern, size_t len, const char *behind)
+struct text repeated_text(const char *before, const char *pattern, size_t len, const char *behind)
 {
-    struct text text = { malloc(len + 1), len };
+    size_t from = strlen(before), to = from + len, all = to + strlen(behind), once = strlen(pattern);
+    char *at = malloc(all + 1);
+    memcpy(at, before, from);
     for (size_t i = 0; i < len; i++)
-        ((char *)text.at)[i] = pattern[i % strlen(pattern)];
-    append(&text, behind, strlen(behind));
-    return text;
+        at[from + i] = pattern[i % once];
+    memcpy(at + to, behind, all - to);
+    return (struct text){ at, all };
 }
