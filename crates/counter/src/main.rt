@@ -20,7 +20,7 @@ enum Served {
     Over,
 }
 
-// Room for one read. Each of its bytes ends at most one line, so the answers, at most 31 bytes each, fit 65,536 bytes.
+// Room for one read. Each of its bytes ends at most one line, so the answers, at most 31 bytes each, fit the 65,536 bytes of `out`.
 fn room() -> [u8; 2048]
     ensures { λ r. ⌜ 2048 ≡ length r ⌝ }
 {
@@ -47,14 +47,15 @@ fn answer(
     control: &mut [u16],
     reader: Reader,
     bytes: &[u8],
+    out: &mut [u8],
 ) -> Served
     requires { ⌜ length (now bytes) ≤ 2048 ⌝ }
+    requires { ⌜ 65536 ≤ length (now out) ⌝ }
     ensures { λ r. ⌜ Answered reader
         (tables (now (kind .entry)) (now (flags .entry)) (now (count .entry)) (now (slots .entry)) (now (roots .entry)) (now (queue .entry)) (now (control .entry)))
         (now (bytes .entry))
         (tables (now (kind .exit)) (now (flags .exit)) (now (count .exit)) (now (slots .exit)) (now (roots .exit)) (now (queue .exit)) (now (control .exit))) r ⌝ }
 {
-    let mut out = io::large_buffer();
     let p = take(
         kind,
         flags,
@@ -65,7 +66,7 @@ fn answer(
         control,
         reader,
         bytes,
-        &mut out,
+        out,
     );
     let written = p.written;
     let next = p.reader;
@@ -85,8 +86,8 @@ fn close(
     queue: &mut [u16],
     control: &mut [u16],
     reader: Reader,
+    out: &mut [u8],
 ) {
-    let mut out = io::buffer();
     let p = end(
         kind,
         flags,
@@ -96,7 +97,7 @@ fn close(
         queue,
         control,
         reader,
-        &mut out,
+        out,
     );
     let written = p.written;
     write(&out[..written]);
@@ -112,7 +113,9 @@ fn serve(
     queue: &mut [u16],
     control: &mut [u16],
     reader: Reader,
+    out: &mut [u8],
 ) -> Served
+    requires { ⌜ 65536 ≤ length (now out) ⌝ }
     ensures { λ r. ⌜ AnsweredSome reader
         (tables (now (kind .entry)) (now (flags .entry)) (now (count .entry)) (now (slots .entry)) (now (roots .entry)) (now (queue .entry)) (now (control .entry)))
         (tables (now (kind .exit)) (now (flags .exit)) (now (count .exit)) (now (slots .exit)) (now (roots .exit)) (now (queue .exit)) (now (control .exit))) r ⌝ }
@@ -124,7 +127,17 @@ fn serve(
         return Served::Over;
     }
     if got == 0 {
-        close(kind, flags, count, slots, roots, queue, control, reader);
+        close(
+            kind,
+            flags,
+            count,
+            slots,
+            roots,
+            queue,
+            control,
+            reader,
+            out,
+        );
         return Served::Over;
     }
     let n = io::count(got, &input);
@@ -138,10 +151,11 @@ fn serve(
         control,
         reader,
         &input[..n],
+        out,
     )
 }
 
-// A fresh heap has 0 in every entry.
+// A fresh heap has 0 in every entry. `out` is made once, since 65,536 zeros for each read would cost as much as the lines.
 // A proved loop has to end, and nothing says that the input does: the loop counts down from a number of reads that no run makes.
 fn run() {
     let mut kind = [0u16; 256];
@@ -151,6 +165,7 @@ fn run() {
     let mut roots = [0u16; 64];
     let mut queue = [0u16; 256];
     let mut control = [0u16; 2];
+    let mut out = io::large_buffer();
     let mut reader = start();
     let mut reads = u64::MAX;
     while reads > 0 {
@@ -164,6 +179,7 @@ fn run() {
             &mut queue,
             &mut control,
             reader,
+            &mut out,
         ) else {
             return;
         };

@@ -29,21 +29,19 @@ use Rattle.session.specs.Taking.{heapAfter, readerAfter, textFor, Stand,
 -- ---- one byte
 
 -- it ends no line
-pub took-held : (s : Step) (t : Reader) (taken : ℕ) (out : List ℕ) (at : ℕ) (h : Heap) → s ≡ More t
-    → TookByte s taken out at h h out (record { reader = t; taken = taken; written = at })
+pub took-held : (s : Step) (t : Reader) (taken : ℕ) (out : List ℕ) (at : ℕ) (h : Heap) (r : Progress) → s ≡ More t
+    → r .reader ≡ t → r .taken ≡ taken → r .written ≡ at → TookByte s taken out at h h out r
 unfolding heapAfter readerAfter textFor
-took-held s t taken out at h e = subst⁻¹ (λ (x : Step). TookByte x taken out at h h out (record { reader = t; taken = taken; written = at })) e
-    (record { heap = refl; reader = refl; count = refl; wrote = wrote-nothing out at; room = omega arith })
+took-held s t taken out at h r e p q w = subst⁻¹ (λ (x : Step). TookByte x taken out at h h out r) e
+    (record { heap = refl; reader = p; count = q; wrote = subst⁻¹ (Wrote out at [] out) w (wrote-nothing out at); room = omega arith })
 
 -- it ends a line, which is answered
-pub took-line : (s : Step) (l : Record) (taken : ℕ) (out : List ℕ) (at : ℕ) (h k : Heap) (end : List ℕ) (written : ℕ) (r : Progress) → s ≡ Line l
-    → k ≡ afterLine h l → Wrote out at (lineFor h l) end written → written ≤ at + 31 → r ≡ record { reader = readerStart; taken = taken; written = written }
+pub took-line : (s : Step) (l : Record) (taken : ℕ) (out : List ℕ) (at : ℕ) (h k : Heap) (end : List ℕ) (r : Progress) → s ≡ Line l
+    → k ≡ afterLine h l → r .reader ≡ readerStart → r .taken ≡ taken → Wrote out at (lineFor h l) end (r .written) → r .written ≤ at + 31
     → TookByte s taken out at h k end r
 unfolding heapAfter readerAfter textFor
-took-line s l taken out at h k end written r e g w m p =
-    subst⁻¹ (λ (x : Progress). TookByte s taken out at h k end x) p
-    (subst⁻¹ (λ (x : Step). TookByte x taken out at h k end (record { reader = readerStart; taken = taken; written = written })) e
-    (record { heap = g; reader = refl; count = refl; wrote = w; room = m }))
+took-line s l taken out at h k end r e g p q w m =
+    subst⁻¹ (λ (x : Step). TookByte x taken out at h k end r) e (record { heap = g; reader = p; count = q; wrote = w; room = m })
 
 -- ---- whether the tables are admitted
 
@@ -64,15 +62,16 @@ took-admission {s} {h = h} t e = e ∙ sym (admission-after h s) ∙ ap admissio
 
 -- ---- what was written, as the whole room shows it
 
-gave : (h : Heap) (before out text : List ℕ) (r : Progress) → Wrote before 0 text out (r .written) → r .written ≤ length before
-    → Gave (record { heap = h; reader = r .reader; taken = r .taken; text = text }) before h out r
-gave h before out text r w m =
+gave : (x : Stand) (before : List ℕ) (k : Heap) (out : List ℕ) (r : Progress) → k ≡ x .heap → r .reader ≡ x .reader → r .taken ≡ x .taken
+    → Wrote before 0 (x .text) out (r .written) → r .written ≤ length before → Gave x before k out r
+gave x before k out r h p q w m =
+    let text : List ℕ = x .text in
     let end : r .written ≡ length text = omega (arith, w .end) in
     let fits : 0 + length text ≤ length before = omega (arith, w .end) in
     let plain : 0 + length text ≡ length text = omega arith in
     record {
-      heap = refl;
-      progress = ap (λ (n : ℕ). record { reader = r .reader; taken = r .taken; written = n }) end;
+      heap = h;
+      progress = λ i. record { reader = p i; taken = q i; written = end i };
       room = omega arith;
       out = w .bytes ∙ sets-eq text before 0 fits ∙ ap (λ (n : ℕ). text ++ drop n before) plain;
     }
@@ -137,7 +136,7 @@ underway-full before h s bytes k out p u less full =
     takes (length before) (record { heap = k; reader = p .reader; taken = p .taken; text = u .text }) (drop (p .taken) bytes)
     ≡ record { heap = k; reader = p .reader; taken = p .taken; text = u .text } =
     rw (drop-cons bytes (p .taken) 0 less, lt-leb (length (u .text) + 31) (length before) (omega (arith, u .wrote .end))) refl in
-    subst⁻¹ (λ (y : Stand). Gave y before k out p) (u .goal ∙ stop) (gave k before out (u .text) p (u .wrote) (u .room))
+    subst⁻¹ (λ (y : Stand). Gave y before k out p) (u .goal ∙ stop) (gave (record { heap = k; reader = p .reader; taken = p .taken; text = u .text }) before k out p refl refl refl (u .wrote) (u .room))
 
 -- all bytes are taken
 pub underway-all : (before : List ℕ) (h : Heap) (s : Reader) (bytes : List ℕ) (k : Heap) (out : List ℕ) (p : Progress)
@@ -149,28 +148,27 @@ underway-all before h s bytes k out p u all =
     takes (length before) (record { heap = k; reader = p .reader; taken = p .taken; text = u .text }) (drop (p .taken) bytes)
     ≡ record { heap = k; reader = p .reader; taken = p .taken; text = u .text } =
     rw (drop-of-length-le bytes {i = p .taken} all) refl in
-    subst⁻¹ (λ (y : Stand). Gave y before k out p) (u .goal ∙ stop) (gave k before out (u .text) p (u .wrote) (u .room))
+    subst⁻¹ (λ (y : Stand). Gave y before k out p) (u .goal ∙ stop) (gave (record { heap = k; reader = p .reader; taken = p .taken; text = u .text }) before k out p refl refl refl (u .wrote) (u .room))
 
 -- ---- the end
 
-pub ended-nothing : (last : Last) (h : Heap) (s : Reader) (out : List ℕ) (r : Progress) → last ≡ Nothing → r ≡ record { reader = readerStart; taken = 0; written = 0 }
+pub ended-nothing : (last : Last) (h : Heap) (s : Reader) (out : List ℕ) (r : Progress) → last ≡ Nothing → r .reader ≡ readerStart → r .taken ≡ 0 → r .written ≡ 0
     → Gave (ends (length out) h s last) out h out r
 unfolding ends
-ended-nothing last h s out r e p =
+ended-nothing last h s out r e p q w =
     subst⁻¹ (λ (x : Last). Gave (ends (length out) h s x) out h out r) e
-    (subst⁻¹ (λ (x : Progress). Gave (begun h readerStart) out h out x) p
-    (gave h out out [] (record { reader = readerStart; taken = 0; written = 0 }) (wrote-nothing out 0) (omega arith)))
+    (gave (begun h readerStart) out h out r refl p q (subst⁻¹ (Wrote out 0 [] out) w (wrote-nothing out 0)) (omega arith))
 
-pub ended-without-room : (last : Last) (l : Record) (h : Heap) (s : Reader) (out : List ℕ) → last ≡ Final l → length out < 31
-    → Gave (ends (length out) h s last) out h out (record { reader = s; taken = 0; written = 0 })
+pub ended-without-room : (last : Last) (l : Record) (h : Heap) (s : Reader) (out : List ℕ) (r : Progress) → last ≡ Final l → length out < 31
+    → r .reader ≡ s → r .taken ≡ 0 → r .written ≡ 0 → Gave (ends (length out) h s last) out h out r
 unfolding ends
-ended-without-room last l h s out e full =
-    rw (e, lt-leb 31 (length out) full) (gave h out out [] (record { reader = s; taken = 0; written = 0 }) (wrote-nothing out 0) (omega arith))
+ended-without-room last l h s out r e full p q w =
+    rw (e, lt-leb 31 (length out) full) (gave (begun h s) out h out r refl p q (subst⁻¹ (Wrote out 0 [] out) w (wrote-nothing out 0)) (omega arith))
 
-pub ended-line : (last : Last) (l : Record) (h k : Heap) (s : Reader) (out end : List ℕ) (written : ℕ) (r : Progress) → last ≡ Final l → 31 ≤ length out
-    → k ≡ afterLine h l → Wrote out 0 (lineFor h l) end written → written ≤ 31 → r ≡ record { reader = readerStart; taken = 0; written = written }
+pub ended-line : (last : Last) (l : Record) (h k : Heap) (s : Reader) (out end : List ℕ) (r : Progress) → last ≡ Final l → 31 ≤ length out
+    → k ≡ afterLine h l → r .reader ≡ readerStart → r .taken ≡ 0 → Wrote out 0 (lineFor h l) end (r .written) → r .written ≤ 31
     → Gave (ends (length out) h s last) out k end r
 unfolding ends
-ended-line last l h k s out end written r e room g w m p =
-    rw (e, le-leb 31 (length out) room, p, g)
-    (gave (afterLine h l) out end (lineFor h l) (record { reader = readerStart; taken = 0; written = written }) w (omega arith))
+ended-line last l h k s out end r e room g p q w m =
+    rw (e, le-leb 31 (length out) room)
+    (gave (record { heap = afterLine h l; reader = readerStart; taken = 0; text = lineFor h l }) out k end r g p q w (omega arith))

@@ -6,9 +6,9 @@ ghost use Rattle.session.specs.Taking.{Gave, ends};
 use crate::line::ROOM;
 use crate::line::answer;
 use crate::taking::Progress;
-use crate::taking::next_line;
 use csv::reader::Last;
 use csv::reader::Reader;
+use csv::reader::start;
 use soundness::admit;
 
 // Answers an unfinished line, after which nothing is held. Without room for its answer nothing is done, and the reader is handed back as it was.
@@ -32,7 +32,11 @@ pub fn end(
         (now (out .exit)) r ⌝ }
 {
     match csv::reader::end(reader) {
-        Last::Nothing => next_line(0, 0),
+        Last::Nothing => Progress {
+            reader: start(),
+            taken: 0,
+            written: 0,
+        },
         Last::Final(said) => {
             if out.len() < ROOM {
                 return Progress {
@@ -42,22 +46,24 @@ pub fn end(
                 };
             }
             let why = admit(kind, flags, count, slots, roots, queue, control);
-            next_line(
+            let written = answer(
+                kind,
+                flags,
+                count,
+                slots,
+                roots,
+                queue,
+                control,
+                why,
+                said,
+                out,
                 0,
-                answer(
-                    kind,
-                    flags,
-                    count,
-                    slots,
-                    roots,
-                    queue,
-                    control,
-                    why,
-                    said,
-                    out,
-                    0,
-                ),
-            )
+            );
+            Progress {
+                reader: start(),
+                taken: 0,
+                written,
+            }
         }
     }
 }

@@ -2,7 +2,7 @@
 ghost use mathlib.Core.Path.{_≡_};
 ghost use Prim.Native.Nat.{_+_, _*_, _≤_};
 ghost use lib.ListN.{length};
-ghost use Rattle.csv.specs.Reading.{readerStart, fed};
+ghost use Rattle.csv.specs.Reading.{fed};
 ghost use Rattle.laws.specs.Calls.Admission.{admission};
 ghost use Rattle.rules.specs.Heap.{tables};
 ghost use Rattle.session.specs.Taking.{TookByte, Gave, begun, takes};
@@ -20,18 +20,6 @@ pub struct Progress {
     pub reader: Reader,
     pub taken: usize,
     pub written: usize,
-}
-
-// A line has ended and is answered: the next one begins.
-pub fn next_line(taken: usize, written: usize) -> Progress
-    ensures { λ r. ⌜ r ≡ record { reader = readerStart; taken = taken; written = written } ⌝ }
-{
-    let reader = start();
-    Progress {
-        reader,
-        taken,
-        written,
-    }
 }
 
 // One byte, the last of `taken`; if it ends a line, that is answered at `at`.
@@ -63,9 +51,8 @@ fn take_byte(
             taken,
             written: at,
         },
-        Step::Line(said) => next_line(
-            taken,
-            answer(
+        Step::Line(said) => {
+            let written = answer(
                 kind,
                 flags,
                 count,
@@ -77,8 +64,13 @@ fn take_byte(
                 said,
                 out,
                 at,
-            ),
-        ),
+            );
+            Progress {
+                reader: start(),
+                taken,
+                written,
+            }
+        }
     }
 }
 

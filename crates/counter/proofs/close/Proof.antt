@@ -1,14 +1,13 @@
--- `counter::close` is safe: what is written fits its buffer. Assumes nothing.
+-- `counter::close` is safe: what is written fits. Assumes nothing.
 use mathlib.Core.Path.{sym}
 use lib.Seq.{length-take-le}
 use Rattle.session.proofs.Delivery.{gave-fits}
-use borrow.Author.Needs.{needs}
 use Rattle.counter.proofs.close.Statement.{statement}
 use Rattle.counter.proofs.close.Tie as tie
 
 slice-aggregate-write : tie.Need-slice-aggregate-write
 slice-aggregate-write c =
-    let end = c .before .before .before .before .before .before .before .before .before .before .before .before .before .before .before .before .end in
+    let end = c .before .before .before .before .before .before .before .before .before .before .before .before .before .before .before .before .before .end in
     sym (length-take-le _ _ (gave-fits (end .ensures)))
 
 pub close-spec : {M : Type 1} → statement M
@@ -16,16 +15,15 @@ close-spec =
     tie.close
     (tie.spec
     (λ c κs. tt)
-    (λ c. search needs)
-    (λ c κs. tt)
-    (λ c. gave-fits ((c .before .before .before .before .before .before .before .before .before .before .before .before .before .before .before .end .ensures)))
+    (λ c. gave-fits ((c .before .before .before .before .before .before .before .before .before .before .before .before .before .before .before .before .end .ensures)))
     slice-aggregate-write
     (λ c κs. tt)
-    (λ c. c .before .before .before .before .before .before .before .before .before .before .before .before .before .before .before .before .before .end .kept .0)
-    (λ c. c .before .before .before .before .before .before .before .before .before .before .before .before .before .before .before .before .before .end .kept .1 .0)
-    (λ c. c .before .before .before .before .before .before .before .before .before .before .before .before .before .before .before .before .before .end .kept .1 .1 .0)
-    (λ c. c .before .before .before .before .before .before .before .before .before .before .before .before .before .before .before .before .before .end .kept .1 .1 .1 .0)
-    (λ c. c .before .before .before .before .before .before .before .before .before .before .before .before .before .before .before .before .before .end .kept .1 .1 .1 .1 .0)
-    (λ c. c .before .before .before .before .before .before .before .before .before .before .before .before .before .before .before .before .before .end .kept .1 .1 .1 .1 .1 .0)
-    (λ c. c .before .before .before .before .before .before .before .before .before .before .before .before .before .before .before .before .before .end .kept .1 .1 .1 .1 .1 .1 .0)
+    (λ c. c .before .before .before .before .before .before .before .before .before .before .before .before .before .before .before .before .before .before .end .kept .0)
+    (λ c. c .before .before .before .before .before .before .before .before .before .before .before .before .before .before .before .before .before .before .end .kept .1 .0)
+    (λ c. c .before .before .before .before .before .before .before .before .before .before .before .before .before .before .before .before .before .before .end .kept .1 .1 .0)
+    (λ c. c .before .before .before .before .before .before .before .before .before .before .before .before .before .before .before .before .before .before .end .kept .1 .1 .1 .0)
+    (λ c. c .before .before .before .before .before .before .before .before .before .before .before .before .before .before .before .before .before .before .end .kept .1 .1 .1 .1 .0)
+    (λ c. c .before .before .before .before .before .before .before .before .before .before .before .before .before .before .before .before .before .before .end .kept .1 .1 .1 .1 .1 .0)
+    (λ c. c .before .before .before .before .before .before .before .before .before .before .before .before .before .before .before .before .before .before .end .kept .1 .1 .1 .1 .1 .1 .0)
+    (λ c. c .before .before .before .before .before .before .before .before .before .before .before .before .before .before .before .before .before .before .end .kept .1 .1 .1 .1 .1 .1 .1 .1 .0)
     (λ c. tt))

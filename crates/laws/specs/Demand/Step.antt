@@ -127,12 +127,6 @@ module _ (h : Heap) (s : SoundBut h []) where
 pub sound-step : (h : Heap) → Ready h → (call : Call) → Ready (step h call .heap)
 sound-step h r call = facts-ready (good-step h (ready-facts r) call .sound)
 
--- so does whatever four numbers ask for
-pub obey-ready : (h : Heap) → Ready h → (q : Asked) → Ready (obey h q .heap)
-unfolding obey refuse
-obey-ready h ok (asks c) = sound-step h ok c
-obey-ready h ok LINE = ok
-
 -- whatever four numbers ask for, the tables that it leaves are admitted, or not admitted for the same reason, as those that it found
 pub admission-kept : (h : Heap) (q : Asked) → asksFresh q ≡ false → admission (obey h q .heap) ≡ admission h
 unfolding obey refuse

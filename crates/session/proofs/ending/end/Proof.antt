@@ -1,5 +1,6 @@
 -- `session::ending::end` meets its contract: nothing is held, there is no room, or the unfinished line is answered. Assumes nothing.
-use mathlib.Core.Path.{sym, _∙_}
+use native.Mathlib.Omega.{arith}
+use mathlib.Core.Path.{refl, sym, _∙_}
 use Rattle.session.proofs.Underway.{ended-nothing, ended-without-room, ended-line}
 use borrow.Author.Needs.{needs}
 use Rattle.session.proofs.ending.end.Statement.{statement}
@@ -9,30 +10,28 @@ returns : tie.Need-returns
 returns c =
     let end = c .before .before .before .before .end in
     let said = c .before .before .said in
-    let if1 = c .if1 in
-    ended-without-room _ _ _ _ _ (sym (end .ensures) ∙ said .given .1) (if1 .taken)
+    ended-without-room _ _ _ _ _ _ (sym (end .ensures) ∙ said .given .1) (omega arith) refl (omega arith) (omega arith)
 
 answer-requires : tie.Need-answer-requires
 answer-requires c κs =
     let admit = c .before .before .before .before .before .before .before .before .admit in
-    let if1 = c .before .before .before .before .before .before .before .before .before .before .before .before .before .before .before .before .if1 in
-    (admit .ensures, if1 .left)
+    (admit .ensures, omega arith)
 
 returns-2 : tie.Need-returns-2
 returns-2 c =
     let end = c .before .before .before .end in
     let enum-told = c .before .enum-told in
-    let next-line = c .next-line in
-    ended-nothing _ _ _ _ _ (sym (end .ensures) ∙ enum-told .given .1) (next-line .ensures)
+    let start = c .start in
+    ended-nothing _ _ _ _ _ (sym (end .ensures) ∙ enum-told .given .1) (start .ensures) (omega arith) (omega arith)
 
 returns-3 : tie.Need-returns-3
 returns-3 c =
     let end = c .before .before .before .before .before .before .before .before .before .before .before .before .before .before .before .before .before .before .before .before .before .before .before .before .before .before .before .before .before .before .before .before .before .before .before .before .before .before .end in
     let said = c .before .before .before .before .before .before .before .before .before .before .before .before .before .before .before .before .before .before .before .before .before .before .before .before .before .before .before .before .before .before .before .before .before .before .before .before .said in
-    let if1 = c .before .before .before .before .before .before .before .before .before .before .before .before .before .before .before .before .before .before .before .before .before .before .before .before .before .before .before .before .before .before .before .before .before .before .if1 in
     let answer = c .before .before .before .before .before .before .before .before .before .before .before .before .before .before .before .before .before .answer in
-    let next-line2 = c .next-line2 in
-    ended-line _ _ _ _ _ _ _ _ _ (sym (end .ensures) ∙ said .given .1) (if1 .left) (answer .ensures .0) (answer .ensures .1 .0) (answer .ensures .1 .1) (next-line2 .ensures)
+    let start2 = c .start2 in
+    ended-line _ _ _ _ _ _ _ _ (sym (end .ensures) ∙ said .given .1) (omega arith)
+    (answer .ensures .0) (start2 .ensures) (omega arith) (answer .ensures .1 .0) (omega (arith, answer .ensures .1 .1))
 
 pub end-spec : {M : Type 1} → statement M
 end-spec =

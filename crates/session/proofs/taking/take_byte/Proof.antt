@@ -1,5 +1,6 @@
 -- `session::taking::take_byte` meets its contract: a byte that ends a line, or one that does not. Assumes nothing.
-use mathlib.Core.Path.{sym, _∙_}
+use native.Mathlib.Omega.{arith}
+use mathlib.Core.Path.{refl, sym, _∙_}
 use Rattle.session.proofs.Underway.{took-held, took-line}
 use borrow.Author.Needs.{needs}
 use Rattle.session.proofs.taking.take_byte.Statement.{statement}
@@ -9,15 +10,16 @@ returns : tie.Need-returns
 returns c =
     let feed = c .before .before .before .feed in
     let next = c .before .next in
-    took-held _ _ _ _ _ _ (sym (feed .ensures) ∙ next .given .1)
+    took-held _ _ _ _ _ _ _ (sym (feed .ensures) ∙ next .given .1) refl (omega arith) (omega arith)
 
 returns-2 : tie.Need-returns-2
 returns-2 c =
     let feed = c .before .before .before .before .before .before .before .before .before .before .before .before .before .before .before .before .before .before .before .before .before .before .before .before .before .before .before .before .before .feed in
     let said = c .before .before .before .before .before .before .before .before .before .before .before .before .before .before .before .before .before .before .before .before .before .before .before .before .before .before .before .said in
     let answer = c .before .before .before .before .before .before .before .before .before .before .before .before .before .before .before .before .before .answer in
-    let next-line = c .next-line in
-    took-line _ _ _ _ _ _ _ _ _ _ (sym (feed .ensures) ∙ said .given .1) (answer .ensures .0) (answer .ensures .1 .0) (answer .ensures .1 .1) (next-line .ensures)
+    let start = c .start in
+    took-line _ _ _ _ _ _ _ _ _ (sym (feed .ensures) ∙ said .given .1)
+    (answer .ensures .0) (start .ensures) (omega arith) (answer .ensures .1 .0) (omega (arith, answer .ensures .1 .1))
 
 pub take-byte-spec : {M : Type 1} → statement M
 take-byte-spec =
