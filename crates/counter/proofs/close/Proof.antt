@@ -7,7 +7,9 @@ use Rattle.counter.proofs.close.Tie as tie
 
 slice-aggregate-write : tie.Need-slice-aggregate-write
 slice-aggregate-write c =
-    let end = c .before .before .before .before .before .before .before .before .before .before .before .before .before .before .before .before .before .end in
+    let end =
+    c .before .before .before .before .before .before .before .before .before .before .before .before .before .before .before .before .before
+    .end in
     sym (length-take-le _ _ (gave-fits (end .ensures)))
 
 pub close-spec : {M : Type 1} → statement M
@@ -15,15 +17,31 @@ close-spec =
     tie.close
     (tie.spec
     (λ c κs. tt)
-    (λ c. gave-fits ((c .before .before .before .before .before .before .before .before .before .before .before .before .before .before .before .before .end .ensures)))
+    (λ c. gave-fits (c .before .before .before .before .before .before .before .before .before .before .before .before .before .before .before .before .end .ensures))
     slice-aggregate-write
     (λ c κs. tt)
-    (λ c. c .before .before .before .before .before .before .before .before .before .before .before .before .before .before .before .before .before .before .end .kept .0)
-    (λ c. c .before .before .before .before .before .before .before .before .before .before .before .before .before .before .before .before .before .before .end .kept .1 .0)
-    (λ c. c .before .before .before .before .before .before .before .before .before .before .before .before .before .before .before .before .before .before .end .kept .1 .1 .0)
-    (λ c. c .before .before .before .before .before .before .before .before .before .before .before .before .before .before .before .before .before .before .end .kept .1 .1 .1 .0)
-    (λ c. c .before .before .before .before .before .before .before .before .before .before .before .before .before .before .before .before .before .before .end .kept .1 .1 .1 .1 .0)
-    (λ c. c .before .before .before .before .before .before .before .before .before .before .before .before .before .before .before .before .before .before .end .kept .1 .1 .1 .1 .1 .0)
-    (λ c. c .before .before .before .before .before .before .before .before .before .before .before .before .before .before .before .before .before .before .end .kept .1 .1 .1 .1 .1 .1 .0)
-    (λ c. c .before .before .before .before .before .before .before .before .before .before .before .before .before .before .before .before .before .before .end .kept .1 .1 .1 .1 .1 .1 .1 .1 .0)
+    (λ c.
+    c .before .before .before .before .before .before .before .before .before .before .before .before .before .before .before .before .before
+    .before .end .kept .0)
+    (λ c.
+    c .before .before .before .before .before .before .before .before .before .before .before .before .before .before .before .before .before
+    .before .end .kept .1 .0)
+    (λ c.
+    c .before .before .before .before .before .before .before .before .before .before .before .before .before .before .before .before .before
+    .before .end .kept .1 .1 .0)
+    (λ c.
+    c .before .before .before .before .before .before .before .before .before .before .before .before .before .before .before .before .before
+    .before .end .kept .1 .1 .1 .0)
+    (λ c.
+    c .before .before .before .before .before .before .before .before .before .before .before .before .before .before .before .before .before
+    .before .end .kept .1 .1 .1 .1 .0)
+    (λ c.
+    c .before .before .before .before .before .before .before .before .before .before .before .before .before .before .before .before .before
+    .before .end .kept .1 .1 .1 .1 .1 .0)
+    (λ c.
+    c .before .before .before .before .before .before .before .before .before .before .before .before .before .before .before .before .before
+    .before .end .kept .1 .1 .1 .1 .1 .1 .0)
+    (λ c.
+    c .before .before .before .before .before .before .before .before .before .before .before .before .before .before .before .before .before
+    .before .end .kept .1 .1 .1 .1 .1 .1 .1 .1 .0)
     (λ c. tt))

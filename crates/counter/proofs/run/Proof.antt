@@ -42,7 +42,9 @@ loop-holds c =
 loop-again : tie.Need-loop-again Inv-loop μ-loop
 loop-again c =
     let serve = c .before .before .before .before .before .before .before .before .before .before .before .serve in
-    let loop = c .before .before .before .before .before .before .before .before .before .before .before .before .before .before .before .before .before .before .before .before .before .loop in
+    let loop =
+    c .before .before .before .before .before .before .before .before .before .before .before .before .before .before .before .before .before
+    .before .before .before .before .loop in
     let next = c .before .next in (
       record {
         kind = serve .kept .0 ∙ loop .inv .0 .kind;

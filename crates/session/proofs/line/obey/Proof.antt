@@ -18,7 +18,8 @@ returns-2 c =
     let if2 = c .before .if2 in
     let if1 = c .before .before .before .if1 in
     let refuse = c .refuse in
-    obeyed-refused _ (never-fresh (entry .args .op) (entry .args .x) (entry .args .y) (entry .args .z)) (sym (names-call .ensures) ∙ if2 .taken) (entry .pre) (if1 .left) (refuse .ensures)
+    obeyed-refused _ (never-fresh (entry .args .op) (entry .args .x) (entry .args .y) (entry .args .z))
+    (sym (names-call .ensures) ∙ if2 .taken) (entry .pre) (if1 .left) (refuse .ensures)
 
 returns-3 : tie.Need-returns-3
 returns-3 c =
@@ -38,7 +39,9 @@ obey-spec =
     (λ c. c .before .before .before .before .before .before .before .before .before .before .before .before .before .before .step .kept .1 .1 .1 .0)
     (λ c. c .before .before .before .before .before .before .before .before .before .before .before .before .before .before .step .kept .1 .1 .1 .1 .0)
     (λ c. c .before .before .before .before .before .before .before .before .before .before .before .before .before .before .step .kept .1 .1 .1 .1 .1 .0)
-    (λ c. c .before .before .before .before .before .before .before .before .before .before .before .before .before .before .step .kept .1 .1 .1 .1 .1 .1 .0)
+    (λ c.
+    c .before .before .before .before .before .before .before .before .before .before .before .before .before .before .step .kept .1
+    .1 .1 .1 .1 .1 .0)
     (λ c. c .before .before .before .before .before .before .before .before .before .before .before .before .before .before .step .ensures)
     (λ c κs. tt)
     (λ c κs. tt)

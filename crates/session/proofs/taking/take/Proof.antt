@@ -40,7 +40,9 @@ returns c =
 add-take-byte : tie.Need-add-take-byte Inv-loop μ-loop
 add-take-byte c =
     let if1 = c .before .before .before .before .before .before .before .before .before .before .if1 in
-    let good = c .before .before .before .before .before .before .before .before .before .before .before .before .before .before .before .before .before .before .before .before .before .before .before .before .before .before .before .before .before .before .good in
+    let good =
+    c .before .before .before .before .before .before .before .before .before .before .before .before .before .before .before .before .before
+    .before .before .before .before .before .before .before .before .before .before .before .before .before .good in
     omega (arith, if1 .taken, good .1 .1 .1 .1 .1 .1 .1 .1 .0)
 
 take-byte-requires : tie.Need-take-byte-requires Inv-loop μ-loop
@@ -53,10 +55,17 @@ loop-less c = omega arith
 
 loop-again : tie.Need-loop-again Inv-loop μ-loop
 loop-again c =
-    let take-byte = c .before .before .before .before .before .before .before .before .before .before .before .before .before .before .before .before .take-byte in
-    let loop = c .before .before .before .before .before .before .before .before .before .before .before .before .before .before .before .before .before .before .before .before .before .before .before .before .before .before .before .before .before .before .loop in
-    let if1 = c .before .before .before .before .before .before .before .before .before .before .before .before .before .before .before .before .before .before .before .before .before .before .before .before .before .before .before .before .if1 in
-    let if2 = c .before .before .before .before .before .before .before .before .before .before .before .before .before .before .before .before .before .before .before .before .before .before .before .before .before .before .if2 in (
+    let take-byte =
+    c .before .before .before .before .before .before .before .before .before .before .before .before .before .before .before .before .take-byte in
+    let loop =
+    c .before .before .before .before .before .before .before .before .before .before .before .before .before .before .before .before .before
+    .before .before .before .before .before .before .before .before .before .before .before .before .before .loop in
+    let if1 =
+    c .before .before .before .before .before .before .before .before .before .before .before .before .before .before .before .before .before
+    .before .before .before .before .before .before .before .before .before .before .before .if1 in
+    let if2 =
+    c .before .before .before .before .before .before .before .before .before .before .before .before .before .before .before .before .before
+    .before .before .before .before .before .before .before .before .before .if2 in (
       took-admission (take-byte .ensures) (loop .inv .0),
       record {
         kind = take-byte .kept .0 ∙ loop .inv .1 .kind;

@@ -14,9 +14,15 @@ returns c =
 
 returns-2 : tie.Need-returns-2
 returns-2 c =
-    let feed = c .before .before .before .before .before .before .before .before .before .before .before .before .before .before .before .before .before .before .before .before .before .before .before .before .before .before .before .before .before .feed in
-    let said = c .before .before .before .before .before .before .before .before .before .before .before .before .before .before .before .before .before .before .before .before .before .before .before .before .before .before .before .said in
-    let answer = c .before .before .before .before .before .before .before .before .before .before .before .before .before .before .before .before .before .answer in
+    let feed =
+    c .before .before .before .before .before .before .before .before .before .before .before .before .before .before .before .before .before
+    .before .before .before .before .before .before .before .before .before .before .before .before .feed in
+    let said =
+    c .before .before .before .before .before .before .before .before .before .before .before .before .before .before .before .before .before
+    .before .before .before .before .before .before .before .before .before .before .said in
+    let answer =
+    c .before .before .before .before .before .before .before .before .before .before .before .before .before .before .before .before .before
+    .answer in
     let start = c .start in
     took-line _ _ _ _ _ _ _ _ _ (sym (feed .ensures) ∙ said .given .1)
     (answer .ensures .0) (start .ensures) (omega arith) (answer .ensures .1 .0) (omega (arith, answer .ensures .1 .1))
@@ -28,15 +34,33 @@ take-byte-spec =
     (λ c κs. tt)
     (λ c. search needs)
     (λ c. search needs)
-    (λ c κs. c .before .before .before .before .before .before .before .before .before .before .before .before .before .before .before .before .before .before .before .before .pre)
+    (λ c κs.
+    c .before .before .before .before .before .before .before .before .before .before .before .before .before .before .before .before .before
+    .before .before .before .pre)
     (λ c κs. tt)
     returns
-    (λ c. c .before .before .before .before .before .before .before .before .before .before .before .before .before .before .before .before .before .answer .kept .0)
-    (λ c. c .before .before .before .before .before .before .before .before .before .before .before .before .before .before .before .before .before .answer .kept .1 .0)
-    (λ c. c .before .before .before .before .before .before .before .before .before .before .before .before .before .before .before .before .before .answer .kept .1 .1 .0)
-    (λ c. c .before .before .before .before .before .before .before .before .before .before .before .before .before .before .before .before .before .answer .kept .1 .1 .1 .0)
-    (λ c. c .before .before .before .before .before .before .before .before .before .before .before .before .before .before .before .before .before .answer .kept .1 .1 .1 .1 .0)
-    (λ c. c .before .before .before .before .before .before .before .before .before .before .before .before .before .before .before .before .before .answer .kept .1 .1 .1 .1 .1 .0)
-    (λ c. c .before .before .before .before .before .before .before .before .before .before .before .before .before .before .before .before .before .answer .kept .1 .1 .1 .1 .1 .1 .0)
-    (λ c. c .before .before .before .before .before .before .before .before .before .before .before .before .before .before .before .before .before .answer .kept .1 .1 .1 .1 .1 .1 .1 .1 .1 .0)
+    (λ c.
+    c .before .before .before .before .before .before .before .before .before .before .before .before .before .before .before .before .before
+    .answer .kept .0)
+    (λ c.
+    c .before .before .before .before .before .before .before .before .before .before .before .before .before .before .before .before .before
+    .answer .kept .1 .0)
+    (λ c.
+    c .before .before .before .before .before .before .before .before .before .before .before .before .before .before .before .before .before
+    .answer .kept .1 .1 .0)
+    (λ c.
+    c .before .before .before .before .before .before .before .before .before .before .before .before .before .before .before .before .before
+    .answer .kept .1 .1 .1 .0)
+    (λ c.
+    c .before .before .before .before .before .before .before .before .before .before .before .before .before .before .before .before .before
+    .answer .kept .1 .1 .1 .1 .0)
+    (λ c.
+    c .before .before .before .before .before .before .before .before .before .before .before .before .before .before .before .before .before
+    .answer .kept .1 .1 .1 .1 .1 .0)
+    (λ c.
+    c .before .before .before .before .before .before .before .before .before .before .before .before .before .before .before .before .before
+    .answer .kept .1 .1 .1 .1 .1 .1 .0)
+    (λ c.
+    c .before .before .before .before .before .before .before .before .before .before .before .before .before .before .before .before .before
+    .answer .kept .1 .1 .1 .1 .1 .1 .1 .1 .1 .0)
     returns-2)
