@@ -68,7 +68,7 @@ static int answer_last(vek_reader reader)
 
 int main(void)
 {
-    static vek_reader reader; /* all zeros: nothing is held */
+    vek_reader reader = VEK_READER_START;
     uint8_t bytes[BYTES];
     ssize_t come;
 

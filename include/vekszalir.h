@@ -75,7 +75,7 @@ extern "C" {
 #define VEK_BUSY 8     /* vek_start while a finalizer is running */
 #define VEK_NONE 9     /* vek_start with an empty queue */
 #define VEK_IDLE 10    /* vek_finish with no finalizer running */
-#define VEK_LINE 11    /* a line that names no call; only answers to lines say so */
+#define VEK_LINE 11    /* a line that names no call; only a line is refused so */
 
 typedef struct {
     uint16_t refused, freed, queued, cell;
@@ -159,26 +159,29 @@ vek_answer vek_finish(VEK_TABLES);
 /* Calls as lines of text, in the bits in which they arrive.
 
    A line is four decimal numbers with commas between them, 1 to 5 digits each and at most 65,535: the call's number,
-   1 vek_new to 8 vek_finish in the order above, then its arguments, unused ones 0. CR LF ends a line, and at the end
-   of the input it may be missing. Each line is answered by a line: the call's number, refused, freed, queued, cell.
-   Any other line, one over 64 bytes among them, does nothing and is answered 0,11,0,0,0. On tables that don't fit, or
-   that are damaged, each line that names a call is refused as the call itself would be.
+   1 vek_new to 8 vek_finish in the order above, then its arguments, unused ones 0. CR LF ends a line; the last one may
+   lack it, and a CR alone does not stand for it. Each line is answered by a line: the call's number, refused, freed,
+   queued, cell. Any other line, one over 64 bytes among them, does nothing and is answered 0,11,0,0,0. On tables that
+   don't fit or are damaged each line that names a call is refused as that call would be.
 
-   Of a line that has not ended yet a reader holds a few numbers, however long it is. A reader of all zeros holds
-   nothing. What its numbers mean is the library's own business, and any numbers are answered.
+   A reader is what is kept of a line that has not ended: seven numbers, however long the line is. VEK_READER_START
+   holds nothing. What the numbers mean is the library's business; any numbers are answered.
 
-       vek_reader reader = {0};
-       while (bytes come) {
+       vek_reader reader = VEK_READER_START;
+       while (there are bytes) {
            vek_progress p = vek_take(VEK_LEND(shop), reader, bytes, bytes_len, out, sizeof out);
            reader = p.reader;
-           write p.written bytes of out; hand in again, by and by, the bytes after the first p.taken
+           (send the first p.written bytes of out; the bytes after the first p.taken are still to be handed in)
        }
        vek_progress p = vek_end(VEK_LEND(shop), reader, out, sizeof out);
+       (send the first p.written bytes of out)
 
-   However the bytes are cut, what is written in all is the answer to the lines of the whole. */
+   However the bytes are cut, what is sent in all is what the whole input is answered. */
 typedef struct {
     uint16_t cr, field, digits, a, b, c, d;
 } vek_reader;
+
+#define VEK_READER_START {0, 0, 0, 0, 0, 0, 0}
 
 typedef struct {
     vek_reader reader;
@@ -188,14 +191,15 @@ typedef struct {
 /* The longest line of answer, with its CR LF. */
 #define VEK_ANSWER_LEN 31
 
-/* Takes bytes one by one while `out` has room for an answer, VEK_ANSWER_LEN bytes, behind what is written, and
-   answers each line that ends. Says the reader to go on with, how many bytes were taken and how many were written;
-   the bytes of `out` behind them stay as they were. With that room and a byte to take, at least one is taken. */
+/* Takes bytes one by one while `out` has room for a longest answer behind what is written, and answers each line that
+   ends. Says the reader to go on with, how many bytes were taken, and how many were written; the bytes of `out` behind
+   them stay as they were. With room for one answer at least one byte is taken, if there is one; with room for an
+   answer to each byte, all are. */
 vek_progress vek_take(VEK_TABLES, vek_reader reader, const uint8_t *bytes, size_t bytes_len, uint8_t *out, size_t out_len);
 
-/* The input has ended: a line that is still held is answered, and the reader that comes back holds nothing. Where
-   there is a line to answer and no room for VEK_ANSWER_LEN bytes, nothing is done, and the reader comes back as it
-   was. `taken` is 0. */
+/* The input has ended. A line that is held is answered, and the reader is VEK_READER_START again; what is taken then is
+   a new input. But where a line is held and `out` has no room for a longest answer, nothing is done, and the reader
+   comes back as it was. `taken` is 0. */
 vek_progress vek_end(VEK_TABLES, vek_reader reader, uint8_t *out, size_t out_len);
 
 #ifdef __cplusplus

@@ -26,6 +26,23 @@ static void run_collect(void) { answer = vek_collect(VEK_LEND(heap)); }
 static void run_start(void) { answer = vek_start(VEK_LEND(heap), 1); }
 static void run_finish(void) { answer = vek_finish(VEK_LEND(heap)); }
 
+/* A COLLECT as a line, which vek_take answers at its CR LF and vek_end without it. */
+static const uint8_t line[] = {'6', ',', '0', ',', '0', ',', '0', '\r', '\n'};
+static vek_progress progress;
+static uint8_t out[VEK_ANSWER_LEN + 1]; /* the last one stays 0 */
+
+static void hold(void) { progress = vek_take(VEK_LEND(heap), (vek_reader){0}, line, sizeof line - 2, out, VEK_ANSWER_LEN); }
+static void run_take(void) { progress = vek_take(VEK_LEND(heap), (vek_reader){0}, line, sizeof line, out, VEK_ANSWER_LEN); }
+static void run_end(void) { progress = vek_end(VEK_LEND(heap), progress.reader, out, VEK_ANSWER_LEN); }
+
+/* What the line's answer says, for `measure` to look at. */
+static void read_answer(void)
+{
+    unsigned refused, freed;
+    if (sscanf((char *)out, "6,%u,%u,", &refused, &freed) == 2)
+        answer.refused = refused, answer.freed = freed;
+}
+
 /* The first n cells as a chain through slot 0, from cell 0 up or from cell n - 1 down; root 0 holds its head. */
 static void chain(unsigned n, int up)
 {
@@ -49,6 +66,7 @@ static size_t depth(void)
 static void measure(const char *name, void (*run)(void), unsigned freed)
 {
     answer.refused = VEK_SIZE;
+    progress.written = 0;
     memset(stack, PAINT, STACK);
     getcontext(&there);
     there.uc_stack.ss_sp = stack;
@@ -57,6 +75,8 @@ static void measure(const char *name, void (*run)(void), unsigned freed)
     makecontext(&there, run, 0);
     swapcontext(&here, &there);
     size_t deep = depth();
+    if (progress.written > 0)
+        read_answer();
     printf("stack of %s: %zu bytes\n", name, deep);
     if (answer.refused != VEK_DONE || answer.freed != freed || deep == 0 || deep >= LIMIT) {
         printf("stack of %s: refused %u, freed %u, or not under %d bytes\n", name, answer.refused, answer.freed, LIMIT);
@@ -78,6 +98,8 @@ int main(void)
     /* the chain's head waits in the queue, and FINISH frees the whole chain */
     chain(N, 1), heap.roots[0] = 0, heap.queue[0] = 1, heap.control[0] = 1, heap.flags[0] = 1;
     measure("start", run_start, 0), measure("finish", run_finish, N);
+    chain(N, 1), measure("take, a line of COLLECT", run_take, 0);
+    chain(N, 1), hold(), measure("end, a line of COLLECT", run_end, 0);
     measure("fresh", run_fresh, 0);
     return failed;
 }

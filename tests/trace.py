@@ -69,7 +69,7 @@ def row_fault(row):
 def main():
     text = TRACE.read_text()
     words = sorted(set(re.findall(r"`([^`\n]+)`", text)))
-    rows = [line for line in text.splitlines() if line.startswith("| ") and not line.startswith("| document 01")]
+    rows = [line for line in text.splitlines() if line.startswith("| ") and not line.startswith(("| document 01", "| document 02"))]
     faults = [f for f in [*map(fault, words), *map(row_fault, rows)] if f]
     for line in faults:
         print(line)

@@ -127,7 +127,7 @@ void feed_take(struct feed *feed, size_t len, size_t room)
     end_event(&event);
 }
 
-/* "the reader that comes back holds nothing", or "comes back as it was" */
+/* "the reader is VEK_READER_START again", or "comes back as it was" */
 static const char *end_difference(const struct event *event, const struct feed *feed)
 {
     const char *found = difference(event, feed->pair);

@@ -1,5 +1,5 @@
-/* "What its numbers mean is the library's own business, and any numbers are answered": whatever stands in a reader, no more
-   is taken and written than there is, and the end of the input leaves nothing held. */
+/* "What the numbers mean is the library's business; any numbers are answered": whatever stands in a reader, no more is taken
+   and written than there is, and the end of the input leaves nothing held. */
 #include "suites.h"
 
 #include "bytes.h"
@@ -45,7 +45,7 @@ static bool rest_stays(const struct bytes *out, size_t written)
     return same;
 }
 
-/* "With that room and a byte to take, at least one is taken." */
+/* "With room for one answer at least one byte is taken, if there is one" */
 static vek_reader take(struct pair *pair, vek_reader reader, struct text input, size_t room)
 {
     struct bytes in = bytes_of(input), before = bytes_of(input), out = bytes_filled(room, FILL);

@@ -4,7 +4,7 @@
 
 #include <stdlib.h>
 
-/* The header: "room for an answer, VEK_ANSWER_LEN bytes, behind what is written" */
+/* The header: "The longest line of answer, with its CR LF." */
 enum { ROOM = 31 };
 
 /* The next line and the place where it ends; false if nothing is left. */
@@ -48,8 +48,8 @@ static bool ends_within(const struct whole *whole, size_t bytes)
     return whole->answered < whole->count && line->closed && line->end <= bytes;
 }
 
-/* "Takes bytes one by one while `out` has room for an answer, VEK_ANSWER_LEN bytes, behind what is written, and answers
-   each line that ends." So it goes from line to line, and where none ends any more to the last byte. */
+/* "Takes bytes one by one while `out` has room for a longest answer behind what is written, and answers each line that
+   ends." So it goes from line to line, and where none ends any more to the last byte. */
 struct owed whole_take(struct whole *whole, struct heap *heap, size_t len, size_t room, char *out)
 {
     size_t from = whole->taken, to = from + len, written = 0;
@@ -62,8 +62,8 @@ struct owed whole_take(struct whole *whole, struct heap *heap, size_t len, size_
     return (struct owed){ .taken = whole->taken - from, .written = written };
 }
 
-/* "a line that is still held is answered, and the reader that comes back holds nothing. Where there is a line to answer and
-   no room for VEK_ANSWER_LEN bytes, nothing is done" */
+/* "A line that is held is answered, and the reader is VEK_READER_START again [..] But where a line is held and `out` has no
+   room for a longest answer, nothing is done" */
 struct owed whole_end(struct whole *whole, struct heap *heap, size_t room, char *out)
 {
     if (whole->answered == whole->count)

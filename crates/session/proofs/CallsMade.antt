@@ -1,4 +1,4 @@
--- The calls that the program makes are a list to which demand 3 applies. Assumes nothing.
+-- The calls that are made for lines are a list to which demand 3 applies. Assumes nothing.
 use Prim.Native.Nat.{ℕ}
 use native.Mathlib.Omega.{arith}
 use mathlib.Core.Path.{_≡_, refl, sym, ap, subst⁻¹}
@@ -8,7 +8,7 @@ use Rattle.csv.specs.declared.reader.Record.{Record}
 use Rattle.rules.specs.Heap.{Heap, fresh, cells}
 use Rattle.rules.specs.Refusals.{Call}
 use Rattle.rules.specs.Refusals.Call.{FRESH}
-use Rattle.rules.specs.Calls.{Result, answers, refuse, done, step, Between, Begins, run}
+use Rattle.rules.specs.Calls.{Result, answers, refuse, done, step, Between, run}
 use Rattle.rules.specs.Calls.Between.{first, behind}
 use Rattle.rules.specs.Asked.{Asked, obey}
 use Rattle.rules.specs.Asked.Asked.{call, LINE}
@@ -17,7 +17,7 @@ use Rattle.laws.specs.Demand.Events.{run-trace}
 use Rattle.laws.specs.Demand.Third.{demand-3}
 use Rattle.session.specs.Session.{askedOf, numberOf, lineOf, afterLine, session, afterAll}
 use Rattle.session.specs.Program.{atStart}
-use Rattle.session.specs.CallsMade.{inFront, callsOf, made, Lined, Keeps}
+use Rattle.session.specs.CallsMade.{inFront, callsOf, made, Lined, LinesKeep, ProgramBegins}
 use Rattle.session.specs.CallsMade.Lined.{noLines, called, refusedLine}
 
 -- ---- the calls that lines ask for
@@ -46,11 +46,19 @@ unfolding callsOf afterAll
 between-lines h [] q = first
 between-lines h (r ∷ p) q = between-one h (afterAll (afterLine h r) p) (askedOf r) (callsOf (p ++ q)) (between-lines (afterLine h r) p q)
 
--- ---- from a fresh heap
+-- ---- from a FRESH done
 
-begins : Begins atStart
+pub lines-keep : LinesKeep
+lines-keep h b input = record {
+  trace = run-trace h (callsOf (recordsOf input));
+  lines = all-lined h (recordsOf input);
+  between = λ p q e. subst⁻¹ (λ (l : List Record). Between h (run h (callsOf l)) (afterAll h p)) e (between-lines h p q);
+  claim = demand-3 h b (made h input) (run-trace h (callsOf (recordsOf input)));
+}
+
+pub program-begins : ProgramBegins
 unfolding done fresh
-begins =
+program-begins =
     let e : step atStart FRESH ≡ done (fresh (cells atStart)) 0 = step-fresh atStart (fresh-ready 256 (omega arith) (omega arith) .sized) in
     record {
       stale = atStart;
@@ -58,12 +66,3 @@ begins =
       did = record { heap = sym (ap (λ (r : Result). r .heap) e); answered = sym (ap (λ (r : Result). r .answer) e) };
       done = refl;
     }
-
-pub program-keeps : (input : List ℕ) → Keeps input
-program-keeps input = record {
-  begins = begins;
-  trace = run-trace atStart (callsOf (recordsOf input));
-  lines = all-lined atStart (recordsOf input);
-  between = λ p q e. subst⁻¹ (λ (l : List Record). Between atStart (run atStart (callsOf l)) (afterAll atStart p)) e (between-lines atStart p q);
-  claim = demand-3 atStart begins (made input) (run-trace atStart (callsOf (recordsOf input)));
-}

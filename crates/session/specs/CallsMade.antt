@@ -1,10 +1,11 @@
--- The calls that the program makes for an input, and the claim that ties them to demand 3.
+-- The calls that are made for the lines of an input, and the claim that ties them to demand 3.
 -- Assumes nothing: these are definitions.
 use Prim.Native.Nat.{ℕ}
 use mathlib.Core.Path.{_≡_}
 use mathlib.Core.List.{List, [], _∷_, _++_}
 use Rattle.csv.specs.Lines.{recordsOf}
 use Rattle.csv.specs.declared.reader.Record.{Record}
+use Rattle.rules.specs.Heap.{Heap}
 use Rattle.rules.specs.Refusals.{Call}
 use Rattle.rules.specs.Calls.{answers, Event, Trace, Between, Begins, run}
 use Rattle.rules.specs.Demand3.{Claim}
@@ -23,9 +24,9 @@ unfoldable pub callsOf : List Record → List Call
 callsOf [] = []
 callsOf (r ∷ rs) = inFront (askedOf r) (callsOf rs)
 
--- the calls that the program makes for an input, with the tables that each left and its answer
-abbrev pub made : List ℕ → List Event
-made input = run atStart (callsOf (recordsOf input))
+-- the calls that are made for an input on the tables h, with the tables that each left and its answer
+abbrev pub made : Heap → List ℕ → List Event
+made h input = run h (callsOf (recordsOf input))
 
 -- lines, the calls that were made for them, and the output: a line that asks for a call has its answer, in order; any other is refused LINE, and nothing is called
 pub data Lined : List Record → List Event → List ℕ → Type 0 where
@@ -35,11 +36,18 @@ pub data Lined : List Record → List Event → List ℕ → Type 0 where
   refusedLine : {rs : List Record} {es : List Event} {w : List ℕ} (r : Record) → askedOf r ≡ LINE → Lined rs es w
       → Lined (r ∷ rs) es (lineOf (numberOf r) (answers 11 0 0 0) ++ w)
 
--- The claim that ties the program to demand 3: what it does for an input is a list of calls that starts from a FRESH done, so demand 3's claim holds of it.
-pub record Keeps (input : List ℕ) : Type 0 where
-  pub begins : Begins atStart
-  pub trace : Trace atStart (made input)
-  pub lines : Lined (recordsOf input) (made input) (session atStart (recordsOf input))
+-- The claim that ties lines to demand 3: where a FRESH was done, what is done for an input is a list of calls that starts from it, so demand 3's claim holds
+-- of it. Once ended, another input goes on where it left the tables.
+pub record Keeps (h : Heap) (input : List ℕ) : Type 0 where
+  pub trace : Trace h (made h input)
+  pub lines : Lined (recordsOf input) (made h input) (session h (recordsOf input))
   -- the tables after any of its lines are tables between those calls
-  pub between : (p q : List Record) → recordsOf input ≡ p ++ q → Between atStart (made input) (afterAll atStart p)
-  pub claim : Claim atStart (made input)
+  pub between : (p q : List Record) → recordsOf input ≡ p ++ q → Between h (made h input) (afterAll h p)
+  pub claim : Claim h (made h input)
+
+abbrev pub LinesKeep : Type 0
+LinesKeep = (h : Heap) → Begins h → (input : List ℕ) → Keeps h input
+
+-- the program starts so
+abbrev pub ProgramBegins : Type 0
+ProgramBegins = Begins atStart

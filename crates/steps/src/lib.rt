@@ -66,13 +66,10 @@ pub fn names_call(op: u16, x: usize, y: usize, z: usize) -> bool
     if !arguments_ok(op, x, y, z) {
         return false;
     }
-    if op == 0 {
-        return false;
+    match op {
+        1..=8 => true,
+        0 | 9..=65535 => false,
     }
-    if op > 8 {
-        return false;
-    }
-    true
 }
 
 // The call with this number, and its arguments as they are.

@@ -10,14 +10,15 @@ returns : tie.Need-returns
 returns c = unused-names-none _ _ _ _ (sym (c .before .arguments-ok .ensures) ∙ not-true _ (c .if1 .taken))
 
 returns-2 : tie.Need-returns-2
-returns-2 c = nought-names-none _ _ _ _ (sym (c .before .before .arguments-ok .ensures) ∙ not-false _ (c .before .if1 .left)) (omega arith)
+returns-2 c =
+    names-call _ _ _ _ (sym (c .before .before .before .arguments-ok .ensures) ∙ not-false _ (c .before .before .if1 .left)) (omega arith) (omega arith)
 
 returns-3 : tie.Need-returns-3
-returns-3 c = above-names-none _ _ _ _ (sym (c .before .before .before .arguments-ok .ensures) ∙ not-false _ (c .before .before .if1 .left)) (omega arith)
+returns-3 c = nought-names-none _ _ _ _ (sym (c .before .before .arguments-ok .ensures) ∙ not-false _ (c .before .if1 .left)) (omega arith)
 
 returns-4 : tie.Need-returns-4
 returns-4 c =
-    names-call _ _ _ _ (sym (c .before .before .before .arguments-ok .ensures) ∙ not-false _ (c .before .before .if1 .left)) (omega arith) (omega arith)
+    above-names-none _ _ _ _ (sym (c .before .before .before .arguments-ok .ensures) ∙ not-false _ (c .before .before .if1 .left)) (omega arith)
 
 pub names-call-spec : {M : Type 1} → statement M
 names-call-spec = tie.close (tie.spec (λ c κs. tt) returns returns-2 returns-3 returns-4)

