@@ -1,15 +1,14 @@
 -- A byte of the input, and its end: the reader that the rules go on with means what the one before did. Assumes nothing.
 use Prim.Native.Nat.{ℕ, _+_}
 use native.Mathlib.Omega.{arith}
-use mathlib.Core.Path.{_≡_, refl, sym, _∙_, ap}
+use mathlib.Core.Path.{_≡_, refl, _∙_, ap}
 use mathlib.Core.List.{List, [], _∷_, map}
 use mathlib.Core.Bool.{Bool, true, false, _&&_, cond, and-true}
-use lib.Dec.{eqb, leb}
-use borrow.Author.Tests.{leb-true, leb-false, eqb-true, eqb-false, le-leb, lt-leb, ne-eqb, eq-eqb}
+use lib.Dec.{eqb}
+use borrow.Author.Tests.{eqb-true, eqb-false, ne-eqb, eq-eqb}
 use Rattle.csv.specs.Lines.{all, ontoFirst, linesOf, fieldsOf, valueFrom, recordOf}
 use Rattle.csv.specs.Reading.{readerStart, skipping, withCr, inLine, plain, recordSoFar, fed, closed, given, atEnd}
-use Rattle.csv.specs.declared.reader.Record.{Record}
-use Rattle.csv.specs.declared.reader.Record.the-variants.{Numbers, Malformed}
+use Rattle.csv.specs.declared.reader.Record.the-variants.{Malformed}
 use Rattle.csv.specs.declared.reader.Reader.{Reader}
 use Rattle.csv.specs.declared.reader.Step.the-variants.{More, Line}
 use Rattle.csv.specs.declared.reader.Last.the-variants.{Nothing, Final}

@@ -1,9 +1,7 @@
-// Lines of calls, in the bits in which they arrive, under their C names. `VEK_TABLES` may be any, as may the reader's numbers and the room.
+// Lines of calls, in the bits in which they arrive, under their C names: any tables, any numbers in the reader, and any room are answered.
 ghost use Prim.Native.Nat.{_*_, _≤_};
-ghost use lib.ListN.{length};
-ghost use Rattle.csv.specs.Reading.{closed};
 ghost use Rattle.rules.specs.Heap.{tables};
-ghost use Rattle.session.specs.Taking.{Gave, begun, takes, ends};
+ghost use Rattle.session.specs.Taking.{BytesTaken, InputEnded};
 use csv::reader::Reader;
 use session::Progress;
 use session::end;
@@ -22,11 +20,9 @@ pub extern "C" fn vek_take(
     bytes: &[u8],
     out: &mut [u8],
 ) -> Progress
-    ensures { λ r. ⌜ Gave
-        (takes (length (now (out .entry)))
-        (begun (tables (now (kind .entry)) (now (flags .entry)) (now (count .entry)) (now (slots .entry)) (now (roots .entry)) (now (queue .entry)) (now (control .entry))) reader)
-        (now (bytes .entry)))
-        (now (out .entry))
+    ensures { λ r. ⌜ BytesTaken reader
+        (tables (now (kind .entry)) (now (flags .entry)) (now (count .entry)) (now (slots .entry)) (now (roots .entry)) (now (queue .entry)) (now (control .entry)))
+        (now (bytes .entry)) (now (out .entry))
         (tables (now (kind .exit)) (now (flags .exit)) (now (count .exit)) (now (slots .exit)) (now (roots .exit)) (now (queue .exit)) (now (control .exit)))
         (now (out .exit)) r ⌝ }
     ensures { λ r. ⌜ r .written ≤ 31 * r .taken ⌝ }
@@ -57,10 +53,8 @@ pub extern "C" fn vek_end(
     reader: Reader,
     out: &mut [u8],
 ) -> Progress
-    ensures { λ r. ⌜ Gave
-        (ends (length (now (out .entry)))
+    ensures { λ r. ⌜ InputEnded reader
         (tables (now (kind .entry)) (now (flags .entry)) (now (count .entry)) (now (slots .entry)) (now (roots .entry)) (now (queue .entry)) (now (control .entry)))
-        reader (closed reader))
         (now (out .entry))
         (tables (now (kind .exit)) (now (flags .exit)) (now (count .exit)) (now (slots .exit)) (now (roots .exit)) (now (queue .exit)) (now (control .exit)))
         (now (out .exit)) r ⌝ }

@@ -1,5 +1,5 @@
 -- Laws of deliveries: bytes taken, one delivery after another, the end. Assumes nothing.
-use Prim.Native.Nat.{ℕ, zero, suc, _+_, _*_, _≤_, _<_}
+use Prim.Native.Nat.{ℕ, suc, _+_, _*_, _≤_, _<_}
 use native.Mathlib.Omega.{arith}
 use mathlib.Core.Path.{_≡_, refl, sym, _∙_, ap, subst, subst⁻¹}
 use mathlib.Core.List.{List, [], _∷_, _++_, append-assoc, append-nil}
@@ -7,7 +7,7 @@ use mathlib.Core.Bool.{Bool, true, false, cond}
 use lib.Dec.{leb}
 use lib.ListN.{length, take, drop, take-append-drop, length-append}
 use lib.Seq.{take-append-seam, take-all}
-use borrow.Author.Tests.{leb-true, leb-false, le-leb}
+use borrow.Author.Tests.{leb-false, le-leb}
 use Rattle.csv.specs.Reading.{readerStart, fed, closed, given, atEnd, records}
 use Rattle.csv.specs.declared.reader.Record.{Record}
 use Rattle.csv.specs.declared.reader.Reader.{Reader}
@@ -18,9 +18,9 @@ use Rattle.csv.specs.declared.reader.Last.the-variants.{Nothing, Final}
 use Rattle.csv.proofs.Whole.{reads-all}
 use Rattle.rules.specs.Heap.{Heap}
 use Rattle.session.specs.declared.taking.Progress.{Progress}
-use Rattle.session.specs.Session.{lineFor, afterLine, session, afterAll}
-use Rattle.session.specs.Taking.{heapAfter, readerAfter, textFor, Stand, begun, took, takes, ends, Gave}
-use Rattle.session.specs.Deliveries.{Took, Delivered, Undivided, AnyDeliveries, GetsOn}
+use Rattle.session.specs.Session.{lineFor, session, afterAll}
+use Rattle.session.specs.Taking.{heapAfter, readerAfter, textFor, Stand, begun, took, takes, ends, Gave, BytesTaken}
+use Rattle.session.specs.Deliveries.{Took, Delivered, AnyDeliveries, GetsOn}
 use Rattle.session.specs.Deliveries.Delivered.{handed, again, ended}
 use Rattle.session.proofs.Session.{session-append, after-append}
 
@@ -232,7 +232,7 @@ left-without-room room x (b ∷ rest) h = go (leb (length (x .text) + 31) room) 
     go false e ih less = leb-false (length (x .text) + 31) room e
 
 -- so with room for an answer to each, all bytes are taken
-pub all-taken : {s : Reader} {h k : Heap} {bytes before after : List ℕ} {r : Progress} → Gave (takes (length before) (begun h s) bytes) before k after r
+pub all-taken : {s : Reader} {h k : Heap} {bytes before after : List ℕ} {r : Progress} → BytesTaken s h bytes before k after r
     → r .written ≤ 31 * r .taken → 31 * length bytes ≤ length before → Took s h bytes (r .reader) k
 all-taken {s} {h} {k} {bytes} {before} {after} {r} g each room =
     let y : Stand = takes (length before) (begun h s) bytes in

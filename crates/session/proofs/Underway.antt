@@ -1,12 +1,12 @@
 -- Laws of taking bytes and of the end, for the functions that do it. Assumes nothing.
-use Prim.Native.Nat.{ℕ, suc, _+_, _*_, _-_, _≤_, _<_}
+use Prim.Native.Nat.{ℕ, _+_, _*_, _≤_, _<_}
 use native.Mathlib.Omega.{arith}
 use native.Mathlib.Numerals.{add-one}
 use mathlib.Core.Path.{_≡_, refl, sym, _∙_, ap, subst⁻¹}
-use mathlib.Core.List.{List, [], _∷_, _++_}
+use mathlib.Core.List.{List, [], _++_}
 use mathlib.Core.Bool.{false}
 use lib.ListN.{length, getD, drop, drop-of-length-le}
-use lib.Seq.{sets, sets-eq, drop-cons}
+use lib.Seq.{sets-eq, drop-cons}
 use borrow.Author.Tests.{le-leb, lt-leb}
 use Rattle.csv.specs.Reading.{readerStart, fed}
 use Rattle.csv.specs.Written.{Wrote}
@@ -24,7 +24,7 @@ use Rattle.laws.specs.Calls.Asked.{asksFresh, never-fresh}
 use Rattle.laws.specs.Demand.Step.{admission-kept}
 use Rattle.session.specs.declared.taking.Progress.{Progress}
 use Rattle.session.specs.Session.{askedOf, lineFor, afterLine}
-use Rattle.session.specs.Taking.{heapAfter, readerAfter, textFor, Stand, begun, took, takes, ends, Gave, TookByte}
+use Rattle.session.specs.Taking.{heapAfter, readerAfter, textFor, Stand, begun, took, takes, ends, Gave, BytesTaken, TookByte}
 
 -- ---- one byte
 
@@ -78,6 +78,10 @@ gave x before k out r h p q w m =
 
 -- ---- byte after byte
 
+-- where it stands, by what was said and written
+abbrev stand : Heap → Progress → List ℕ → Stand
+stand k p text = record { heap = k; reader = p .reader; taken = p .taken; text = text }
+
 -- Some of the bytes are taken: what the rest of them will give is what all of them give. No answer has more than 31 bytes.
 pub record Underway (before : List ℕ) (h : Heap) (s : Reader) (bytes : List ℕ) (k : Heap) (out : List ℕ) (p : Progress) : Type 0 where
   pub text : List ℕ
@@ -85,9 +89,7 @@ pub record Underway (before : List ℕ) (h : Heap) (s : Reader) (bytes : List �
   pub room : p .written ≤ length before
   pub within : p .taken ≤ length bytes
   pub each : p .written ≤ 31 * p .taken
-  pub goal :
-      takes (length before) (begun h s) bytes
-      ≡ takes (length before) (record { heap = k; reader = p .reader; taken = p .taken; text = text }) (drop (p .taken) bytes)
+  pub goal : takes (length before) (begun h s) bytes ≡ takes (length before) (stand k p text) (drop (p .taken) bytes)
 
 pub underway-begin : (before : List ℕ) (h : Heap) (s : Reader) (bytes : List ℕ) → Underway before h s bytes h before (record { reader = s; taken = 0; written = 0 })
 underway-begin before h s bytes = record {
@@ -111,8 +113,8 @@ pub underway-byte : (before : List ℕ) (h : Heap) (s : Reader) (bytes : List �
 unfolding took
 underway-byte before h s bytes k m out end p r u less room t =
     let step : Step = fed (p .reader) (getD bytes (p .taken) 0) in
-    let x : Stand = record { heap = k; reader = p .reader; taken = p .taken; text = u .text } in
-    let same : took x step ≡ record { heap = m; reader = r .reader; taken = r .taken; text = u .text ++ textFor k step } =
+    let x : Stand = stand k p (u .text) in
+    let same : took x step ≡ stand m r (u .text ++ textFor k step) =
     λ i. record { heap = sym (t .heap) i; reader = sym (t .reader) i; taken = sym (t .count) i; text = u .text ++ textFor k step } in
     record {
       text = u .text ++ textFor k step;
@@ -126,29 +128,27 @@ underway-byte before h s bytes k m out end p r u less room t =
           ∙ ap (λ (y : Stand). takes (length before) y (drop (r .taken) bytes)) same;
     }
 
--- no room is left for an answer
+-- nothing more is taken
+stopped : (before : List ℕ) (h : Heap) (s : Reader) (bytes : List ℕ) (k : Heap) (out : List ℕ) (p : Progress) (u : Underway before h s bytes k out p)
+    → takes (length before) (stand k p (u .text)) (drop (p .taken) bytes) ≡ stand k p (u .text)
+    → BytesTaken s h bytes before k out p
+stopped before h s bytes k out p u e =
+    subst⁻¹ (λ (y : Stand). Gave y before k out p) (u .goal ∙ e) (gave (stand k p (u .text)) before k out p refl refl refl (u .wrote) (u .room))
+
+-- since no room is left for an answer
 pub underway-full : (before : List ℕ) (h : Heap) (s : Reader) (bytes : List ℕ) (k : Heap) (out : List ℕ) (p : Progress)
     → Underway before h s bytes k out p → p .taken < length bytes → length before < p .written + 31
-    → Gave (takes (length before) (begun h s) bytes) before k out p
+    → BytesTaken s h bytes before k out p
 unfolding takes
-underway-full before h s bytes k out p u less full =
-    let stop :
-    takes (length before) (record { heap = k; reader = p .reader; taken = p .taken; text = u .text }) (drop (p .taken) bytes)
-    ≡ record { heap = k; reader = p .reader; taken = p .taken; text = u .text } =
-    rw (drop-cons bytes (p .taken) 0 less, lt-leb (length (u .text) + 31) (length before) (omega (arith, u .wrote .end))) refl in
-    subst⁻¹ (λ (y : Stand). Gave y before k out p) (u .goal ∙ stop) (gave (record { heap = k; reader = p .reader; taken = p .taken; text = u .text }) before k out p refl refl refl (u .wrote) (u .room))
+underway-full before h s bytes k out p u less full = stopped before h s bytes k out p u
+    (rw (drop-cons bytes (p .taken) 0 less, lt-leb (length (u .text) + 31) (length before) (omega (arith, u .wrote .end))) refl)
 
--- all bytes are taken
+-- since all bytes are taken
 pub underway-all : (before : List ℕ) (h : Heap) (s : Reader) (bytes : List ℕ) (k : Heap) (out : List ℕ) (p : Progress)
     → Underway before h s bytes k out p → length bytes ≤ p .taken
-    → Gave (takes (length before) (begun h s) bytes) before k out p
+    → BytesTaken s h bytes before k out p
 unfolding takes
-underway-all before h s bytes k out p u all =
-    let stop :
-    takes (length before) (record { heap = k; reader = p .reader; taken = p .taken; text = u .text }) (drop (p .taken) bytes)
-    ≡ record { heap = k; reader = p .reader; taken = p .taken; text = u .text } =
-    rw (drop-of-length-le bytes {i = p .taken} all) refl in
-    subst⁻¹ (λ (y : Stand). Gave y before k out p) (u .goal ∙ stop) (gave (record { heap = k; reader = p .reader; taken = p .taken; text = u .text }) before k out p refl refl refl (u .wrote) (u .room))
+underway-all before h s bytes k out p u all = stopped before h s bytes k out p u (rw (drop-of-length-le bytes {i = p .taken} all) refl)
 
 -- ---- the end
 

@@ -11,7 +11,7 @@ use Rattle.csv.specs.declared.reader.Reader.{Reader}
 use Rattle.rules.specs.Heap.{Heap}
 use Rattle.session.specs.declared.taking.Progress.{Progress}
 use Rattle.session.specs.Session.{session, afterAll}
-use Rattle.session.specs.Taking.{begun, takes, ends, Gave}
+use Rattle.session.specs.Taking.{begun, takes, ends, BytesTaken, InputEnded}
 
 -- Some input was taken: the reader s on the tables h became the reader t on the tables k. Whatever follows, the lines that ended are those that s gives out
 -- and t no longer does; obeyed on h they leave k.
@@ -25,15 +25,15 @@ pub record Took (s : Reader) (h : Heap) (input : List ℕ) (t : Reader) (k : Hea
 -- is ended, and ended again if the reader that comes back holds something still.
 pub data Delivered : Reader → Heap → List ℕ → List ℕ → Heap → Type 0 where
   handed : {s : Reader} {h k m : Heap} (bytes later before after : List ℕ) (r : Progress) {w : List ℕ}
-      → Gave (takes (length before) (begun h s) bytes) before k after r
+      → BytesTaken s h bytes before k after r
       → Delivered (r .reader) k (drop (r .taken) bytes ++ later) w m
       → Delivered s h (bytes ++ later) (take (r .written) after ++ w) m
   again : {s : Reader} {h k m : Heap} (before after : List ℕ) (r : Progress) {w : List ℕ}
-      → Gave (ends (length before) h s (closed s)) before k after r
+      → InputEnded s h before k after r
       → Delivered (r .reader) k [] w m
       → Delivered s h [] (take (r .written) after ++ w) m
   ended : {s : Reader} {h k : Heap} (before after : List ℕ) (r : Progress)
-      → Gave (ends (length before) h s (closed s)) before k after r
+      → InputEnded s h before k after r
       → r .reader ≡ readerStart
       → Delivered s h [] (take (r .written) after) k
 

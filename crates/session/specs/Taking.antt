@@ -7,7 +7,7 @@ use mathlib.Core.List.{List, [], _∷_, _++_}
 use mathlib.Core.Bool.{cond}
 use lib.Dec.{leb}
 use lib.ListN.{length, drop}
-use Rattle.csv.specs.Reading.{readerStart, fed}
+use Rattle.csv.specs.Reading.{readerStart, fed, closed}
 use Rattle.csv.specs.Written.{Wrote}
 use Rattle.csv.specs.declared.reader.Reader.{Reader}
 use Rattle.csv.specs.declared.reader.Step.{Step}
@@ -67,6 +67,14 @@ pub record Gave (x : Stand) (before : List ℕ) (k : Heap) (after : List ℕ) (r
   pub progress : r ≡ record { reader = x .reader; taken = x .taken; written = length (x .text) }
   pub room : length (x .text) ≤ length before
   pub out : after ≡ x .text ++ drop (length (x .text)) before
+
+-- these bytes had come, with this room
+abbrev pub BytesTaken : Reader → Heap → List ℕ → List ℕ → Heap → List ℕ → Progress → Type 0
+BytesTaken s h bytes before k after r = Gave (takes (length before) (begun h s) bytes) before k after r
+
+-- the input had ended
+abbrev pub InputEnded : Reader → Heap → List ℕ → Heap → List ℕ → Progress → Type 0
+InputEnded s h before k after r = Gave (ends (length before) h s (closed s)) before k after r
 
 -- a byte was taken, the last of `taken`, and what it gives was written at `at`
 pub record TookByte (s : Step) (taken : ℕ) (before : List ℕ) (at : ℕ) (h k : Heap) (after : List ℕ) (r : Progress) : Type 0 where

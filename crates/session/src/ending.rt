@@ -1,8 +1,6 @@
 // The end of the input.
-ghost use lib.ListN.{length};
-ghost use Rattle.csv.specs.Reading.{closed};
 ghost use Rattle.rules.specs.Heap.{tables};
-ghost use Rattle.session.specs.Taking.{Gave, ends};
+ghost use Rattle.session.specs.Taking.{InputEnded};
 use crate::line::ROOM;
 use crate::line::answer;
 use crate::taking::Progress;
@@ -23,10 +21,8 @@ pub fn end(
     reader: Reader,
     out: &mut [u8],
 ) -> Progress
-    ensures { λ r. ⌜ Gave
-        (ends (length (now (out .entry)))
+    ensures { λ r. ⌜ InputEnded reader
         (tables (now (kind .entry)) (now (flags .entry)) (now (count .entry)) (now (slots .entry)) (now (roots .entry)) (now (queue .entry)) (now (control .entry)))
-        reader (closed reader))
         (now (out .entry))
         (tables (now (kind .exit)) (now (flags .exit)) (now (count .exit)) (now (slots .exit)) (now (roots .exit)) (now (queue .exit)) (now (control .exit)))
         (now (out .exit)) r ⌝ }

@@ -5,7 +5,7 @@ ghost use lib.ListN.{length};
 ghost use Rattle.csv.specs.Reading.{fed};
 ghost use Rattle.laws.specs.Calls.Admission.{admission};
 ghost use Rattle.rules.specs.Heap.{tables};
-ghost use Rattle.session.specs.Taking.{TookByte, Gave, begun, takes};
+ghost use Rattle.session.specs.Taking.{TookByte, BytesTaken};
 use crate::line::ROOM;
 use crate::line::answer;
 use csv::reader::Reader;
@@ -87,11 +87,9 @@ pub fn take(
     bytes: &[u8],
     out: &mut [u8],
 ) -> Progress
-    ensures { λ r. ⌜ Gave
-        (takes (length (now (out .entry)))
-        (begun (tables (now (kind .entry)) (now (flags .entry)) (now (count .entry)) (now (slots .entry)) (now (roots .entry)) (now (queue .entry)) (now (control .entry))) reader)
-        (now (bytes .entry)))
-        (now (out .entry))
+    ensures { λ r. ⌜ BytesTaken reader
+        (tables (now (kind .entry)) (now (flags .entry)) (now (count .entry)) (now (slots .entry)) (now (roots .entry)) (now (queue .entry)) (now (control .entry)))
+        (now (bytes .entry)) (now (out .entry))
         (tables (now (kind .exit)) (now (flags .exit)) (now (count .exit)) (now (slots .exit)) (now (roots .exit)) (now (queue .exit)) (now (control .exit)))
         (now (out .exit)) r ⌝ }
     ensures { λ r. ⌜ r .written ≤ 31 * r .taken ⌝ }

@@ -16,4 +16,18 @@ returns-3 : tie.Need-returns-3
 returns-3 c = next-digit _ _ _ _ (omega arith) (omega arith) (omega arith) (omega arith)
 
 pub digit-spec : {M : Type 1} → statement M
-digit-spec = tie.close (tie.spec (λ c κs. tt) returns (λ c. search needs) (λ c. search needs) (λ c. search needs) (λ c. search needs) (λ c. search needs) (λ c κs. tt) returns-2 (λ c. search needs) (λ c. search needs) returns-3)
+digit-spec =
+    tie.close
+    (tie.spec
+    (λ c κs. tt)
+    returns
+    (λ c. search needs)
+    (λ c. search needs)
+    (λ c. search needs)
+    (λ c. search needs)
+    (λ c. search needs)
+    (λ c κs. tt)
+    returns-2
+    (λ c. search needs)
+    (λ c. search needs)
+    returns-3)

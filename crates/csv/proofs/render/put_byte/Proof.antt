@@ -1,5 +1,4 @@
 -- `csv::render::put_byte` meets its contract. Assumes nothing.
-use native.Mathlib.Omega.{arith}
 use Rattle.csv.proofs.Written.{wrote-byte}
 use borrow.Author.Needs.{needs}
 use Rattle.csv.proofs.render.put_byte.Statement.{statement}
