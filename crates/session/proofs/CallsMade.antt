@@ -2,7 +2,6 @@
 use native.Mathlib.Omega.{arith}
 use mathlib.Core.Path.{_≡_, refl, sym, ap, subst⁻¹}
 use mathlib.Core.List.{List, [], _∷_, _++_}
-use Rattle.csv.specs.Lines.{recordsOf}
 use Rattle.csv.specs.declared.reader.Record.{Record}
 use Rattle.rules.specs.Heap.{Heap, fresh, cells}
 use Rattle.rules.specs.Refusals.{Call}
@@ -48,11 +47,11 @@ between-lines h (r ∷ p) q = between-one h (afterAll (afterLine h r) p) (askedO
 -- ---- from a FRESH done
 
 pub lines-keep : LinesKeep
-lines-keep h b input = record {
-  trace = run-trace h (callsOf (recordsOf input));
-  lines = all-lined h (recordsOf input);
+lines-keep h b rs = record {
+  trace = run-trace h (callsOf rs);
+  lines = all-lined h rs;
   between = λ p q e. subst⁻¹ (λ (l : List Record). Between h (run h (callsOf l)) (afterAll h p)) e (between-lines h p q);
-  claim = demand-3 h b (made h input) (run-trace h (callsOf (recordsOf input)));
+  claim = demand-3 h b (made h rs) (run-trace h (callsOf rs));
 }
 
 pub program-begins : ProgramBegins

@@ -1,9 +1,8 @@
--- The calls that are made for the lines of an input, and the claim that ties them to demand 3.
+-- The calls that are made for lines, and the claim that ties them to demand 3.
 -- Assumes nothing: these are definitions.
 use Prim.Native.Nat.{ℕ}
 use mathlib.Core.Path.{_≡_}
 use mathlib.Core.List.{List, [], _∷_, _++_}
-use Rattle.csv.specs.Lines.{recordsOf}
 use Rattle.csv.specs.declared.reader.Record.{Record}
 use Rattle.rules.specs.Heap.{Heap}
 use Rattle.rules.specs.Refusals.{Call}
@@ -24,9 +23,9 @@ unfoldable pub callsOf : List Record → List Call
 callsOf [] = []
 callsOf (r ∷ rs) = inFront (askedOf r) (callsOf rs)
 
--- the calls that are made for an input on the tables h, with the tables that each left and its answer
-abbrev pub made : Heap → List ℕ → List Event
-made h input = run h (callsOf (recordsOf input))
+-- the calls that are made for lines on the tables h, with the tables that each left and its answer
+abbrev pub made : Heap → List Record → List Event
+made h rs = run h (callsOf rs)
 
 -- lines, the calls that were made for them, and the output: a line that asks for a call has its answer, in order; any other is refused LINE, and nothing is called
 pub data Lined : List Record → List Event → List ℕ → Type 0 where
@@ -36,17 +35,17 @@ pub data Lined : List Record → List Event → List ℕ → Type 0 where
   refusedLine : {rs : List Record} {es : List Event} {w : List ℕ} (r : Record) → askedOf r ≡ LINE → Lined rs es w
       → Lined (r ∷ rs) es (lineOf (numberOf r) (answers 11 0 0 0) ++ w)
 
--- The claim that ties lines to demand 3: where a FRESH was done, what is done for an input is a list of calls that starts from it, so demand 3's claim holds
--- of it. Once ended, another input goes on where it left the tables.
-pub record Keeps (h : Heap) (input : List ℕ) : Type 0 where
-  pub trace : Trace h (made h input)
-  pub lines : Lined (recordsOf input) (made h input) (session h (recordsOf input))
-  -- the tables after any of its lines are tables between those calls
-  pub between : (p q : List Record) → recordsOf input ≡ p ++ q → Between h (made h input) (afterAll h p)
-  pub claim : Claim h (made h input)
+-- The claim that ties lines to demand 3: where a FRESH was done, what is done for lines, be they of one input or of several, one after another, is a list of
+-- calls that starts from it, so demand 3's claim holds of it.
+pub record Keeps (h : Heap) (rs : List Record) : Type 0 where
+  pub trace : Trace h (made h rs)
+  pub lines : Lined rs (made h rs) (session h rs)
+  -- the tables after any of the lines are tables between those calls
+  pub between : (p q : List Record) → rs ≡ p ++ q → Between h (made h rs) (afterAll h p)
+  pub claim : Claim h (made h rs)
 
 abbrev pub LinesKeep : Type 0
-LinesKeep = (h : Heap) → Begins h → (input : List ℕ) → Keeps h input
+LinesKeep = (h : Heap) → Begins h → (rs : List Record) → Keeps h rs
 
 -- the program starts so
 abbrev pub ProgramBegins : Type 0

@@ -45,7 +45,7 @@ pub record Undivided (h : Heap) (input w : List ℕ) (m : Heap) : Type 0 where
 abbrev pub AnyDeliveries : Type 0
 AnyDeliveries = (h m : Heap) (input w : List ℕ) → Delivered readerStart h input w m → Undivided h input w m
 
--- "with a room of at least 31 it always gets on": of bytes that have come one at least is taken, and the end leaves nothing held
+-- With room for an answer it gets on: of bytes that have come one at least is taken, and the end leaves nothing held.
 pub record GetsOn : Type 0 where
   pub takesSome : (room : ℕ) (h : Heap) (s : Reader) (bytes : List ℕ) → 31 ≤ room → 1 ≤ length bytes → 1 ≤ takes room (begun h s) bytes .taken
   pub holdsNothing : (room : ℕ) (h : Heap) (s : Reader) → 31 ≤ room → ends room h s (closed s) .reader ≡ readerStart

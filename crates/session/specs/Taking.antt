@@ -1,5 +1,5 @@
--- Document 02, Q-1: what is taken of the bytes that have come, what is written for them, and what is held. "Room for answers is the caller's": a byte is taken
--- only while the answer that it may call for has room.
+-- Document 02, Q-1: what is taken of the bytes that have come, what is written for them, and what is held. The room for answers is the caller's: a byte is
+-- taken only while the answer that it may call for has room.
 -- Assumes nothing: these are definitions.
 use Prim.Native.Nat.{ℕ, _+_, _≤_}
 use mathlib.Core.Path.{_≡_}
