@@ -27,9 +27,10 @@ pub fn end(
         (tables (now (kind .exit)) (now (flags .exit)) (now (count .exit)) (now (slots .exit)) (now (roots .exit)) (now (queue .exit)) (now (control .exit)))
         (now (out .exit)) r ⌝ }
 {
+    let nothing = start();
     match csv::reader::end(reader) {
         Last::Nothing => Progress {
-            reader: start(),
+            reader: nothing,
             taken: 0,
             written: 0,
         },
@@ -56,7 +57,7 @@ pub fn end(
                 0,
             );
             Progress {
-                reader: start(),
+                reader: nothing,
                 taken: 0,
                 written,
             }

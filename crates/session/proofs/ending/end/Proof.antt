@@ -19,9 +19,9 @@ answer-requires c κs =
 
 returns-2 : tie.Need-returns-2
 returns-2 c =
-    let end = c .before .before .before .end in
-    let enum-told = c .before .enum-told in
-    let start = c .start in
+    let end = c .before .before .end in
+    let enum-told = c .enum-told in
+    let start = c .before .before .before .start in
     ended-nothing _ _ _ _ _ (sym (end .ensures) ∙ enum-told .given .1) (start .ensures) (omega arith) (omega arith)
 
 returns-3 : tie.Need-returns-3
@@ -29,56 +29,57 @@ returns-3 c =
     let end =
     c .before .before .before .before .before .before .before .before .before .before .before .before .before .before .before .before .before
     .before .before .before .before .before .before .before .before .before .before .before .before .before .before .before .before .before .before
-    .before .before .before .end in
+    .before .before .end in
     let said =
     c .before .before .before .before .before .before .before .before .before .before .before .before .before .before .before .before .before
     .before .before .before .before .before .before .before .before .before .before .before .before .before .before .before .before .before .before
-    .before .said in
+    .said in
     let if1 =
     c .before .before .before .before .before .before .before .before .before .before .before .before .before .before .before .before .before
-    .before .before .before .before .before .before .before .before .before .before .before .before .before .before .before .before .before .if1 in
+    .before .before .before .before .before .before .before .before .before .before .before .before .before .before .before .before .if1 in
     let answer =
+    c .before .before .before .before .before .before .before .before .before .before .before .before .before .before .before .before .answer in
+    let start =
     c .before .before .before .before .before .before .before .before .before .before .before .before .before .before .before .before .before
-    .answer in
-    let start2 = c .start2 in
+    .before .before .before .before .before .before .before .before .before .before .before .before .before .before .before .before .before .before
+    .before .before .before .start in
     ended-line _ _ _ _ _ _ _ _ (sym (end .ensures) ∙ said .given .1) (omega (arith, if1 .left))
-    (answer .ensures .0) (start2 .ensures) (omega arith) (answer .ensures .1 .0) (omega (arith, answer .ensures .1 .1))
+    (answer .ensures .0) (start .ensures) (omega arith) (answer .ensures .1 .0) (omega (arith, answer .ensures .1 .1))
 
 pub end-spec : {M : Type 1} → statement M
 end-spec =
     tie.close
     (tie.spec
     (λ c κs. tt)
-    (λ c. search needs)
     (λ c κs. tt)
+    (λ c. search needs)
     (λ c. search needs)
     returns
     (λ c κs. tt)
     answer-requires
-    (λ c κs. tt)
     returns-2
     (λ c.
-    c .before .before .before .before .before .before .before .before .before .before .before .before .before .before .before .before .before
-    .answer .kept .0)
+    c .before .before .before .before .before .before .before .before .before .before .before .before .before .before .before .before .answer
+    .kept .0)
     (λ c.
-    c .before .before .before .before .before .before .before .before .before .before .before .before .before .before .before .before .before
-    .answer .kept .1 .0)
+    c .before .before .before .before .before .before .before .before .before .before .before .before .before .before .before .before .answer
+    .kept .1 .0)
     (λ c.
-    c .before .before .before .before .before .before .before .before .before .before .before .before .before .before .before .before .before
-    .answer .kept .1 .1 .0)
+    c .before .before .before .before .before .before .before .before .before .before .before .before .before .before .before .before .answer
+    .kept .1 .1 .0)
     (λ c.
-    c .before .before .before .before .before .before .before .before .before .before .before .before .before .before .before .before .before
-    .answer .kept .1 .1 .1 .0)
+    c .before .before .before .before .before .before .before .before .before .before .before .before .before .before .before .before .answer
+    .kept .1 .1 .1 .0)
     (λ c.
-    c .before .before .before .before .before .before .before .before .before .before .before .before .before .before .before .before .before
-    .answer .kept .1 .1 .1 .1 .0)
+    c .before .before .before .before .before .before .before .before .before .before .before .before .before .before .before .before .answer
+    .kept .1 .1 .1 .1 .0)
     (λ c.
-    c .before .before .before .before .before .before .before .before .before .before .before .before .before .before .before .before .before
-    .answer .kept .1 .1 .1 .1 .1 .0)
+    c .before .before .before .before .before .before .before .before .before .before .before .before .before .before .before .before .answer
+    .kept .1 .1 .1 .1 .1 .0)
     (λ c.
-    c .before .before .before .before .before .before .before .before .before .before .before .before .before .before .before .before .before
-    .answer .kept .1 .1 .1 .1 .1 .1 .0)
+    c .before .before .before .before .before .before .before .before .before .before .before .before .before .before .before .before .answer
+    .kept .1 .1 .1 .1 .1 .1 .0)
     (λ c.
-    c .before .before .before .before .before .before .before .before .before .before .before .before .before .before .before .before .before
-    .answer .kept .1 .1 .1 .1 .1 .1 .1 .1 .1 .0)
+    c .before .before .before .before .before .before .before .before .before .before .before .before .before .before .before .before .answer
+    .kept .1 .1 .1 .1 .1 .1 .1 .1 .1 .0)
     returns-3)
