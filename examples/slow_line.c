@@ -6,7 +6,7 @@
 #include <stdio.h>
 #include <unistd.h>
 
-/* Both may be of any size: what comes is not held here, and with room for one answer some byte is always taken. */
+/* What comes is not held here, so BYTES may be anything; with room for one answer, VEK_ANSWER_LEN, some byte is always taken. */
 enum { BYTES = 64, OUT = 2 * VEK_ANSWER_LEN };
 
 static VEK_STORAGE(256) shop;

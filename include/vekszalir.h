@@ -164,8 +164,8 @@ vek_answer vek_finish(VEK_TABLES);
    queued, cell. Any other line, one over 64 bytes among them, does nothing and is answered 0,11,0,0,0. On tables that
    don't fit or are damaged each line that names a call is refused as that call would be.
 
-   A reader is what is kept of a line that has not ended: seven numbers, however long the line is. VEK_READER_START
-   holds nothing. What the numbers mean is the library's business; any numbers are answered.
+   A reader is what is kept of a line that has not ended: seven numbers, however long the line is. VEK_READER_START, all
+   zeros, holds nothing. What other numbers mean is the library's business; any are answered.
 
        vek_reader reader = VEK_READER_START;
        while (there are bytes) {
@@ -176,7 +176,8 @@ vek_answer vek_finish(VEK_TABLES);
        vek_progress p = vek_end(VEK_LEND(shop), reader, out, sizeof out);
        (send the first p.written bytes of out)
 
-   However the bytes are cut, what is sent in all is what the whole input is answered. */
+   However the bytes are cut, what is sent in all is what the whole input is answered, if nothing else is done to the
+   heap in between. */
 typedef struct {
     uint16_t cr, field, digits, a, b, c, d;
 } vek_reader;
@@ -193,13 +194,13 @@ typedef struct {
 
 /* Takes bytes one by one while `out` has room for a longest answer behind what is written, and answers each line that
    ends. Says the reader to go on with, how many bytes were taken, and how many were written; the bytes of `out` behind
-   them stay as they were. With room for one answer at least one byte is taken, if there is one; with room for an
-   answer to each byte, all are. */
+   them stay as they were, and no NUL is written. With room for one answer at least one byte is taken, if there is one;
+   with room for an answer to each byte, all are; with less room than for one, nothing ever is. */
 vek_progress vek_take(VEK_TABLES, vek_reader reader, const uint8_t *bytes, size_t bytes_len, uint8_t *out, size_t out_len);
 
 /* The input has ended. A line that is held is answered, and the reader is VEK_READER_START again; what is taken then is
    a new input. But where a line is held and `out` has no room for a longest answer, nothing is done, and the reader
-   comes back as it was. `taken` is 0. */
+   comes back as it was, not all zeros: end again, with more room. `taken` is 0. */
 vek_progress vek_end(VEK_TABLES, vek_reader reader, uint8_t *out, size_t out_len);
 
 #ifdef __cplusplus

@@ -133,7 +133,7 @@ def answers(data):
 
 
 def conversations():
-    """The basket and short inputs with ends of every kind, and lines of the longest bits, cut in every way, with the answers."""
+    """The basket and short inputs with ends of every kind, many lines in one bit and a long line, cut in every way, with the answers."""
     data = [BASKET.read_bytes(), BASKET.read_bytes()[:-1], 40 * b"6,0,0,0\r\n", 100 * b"1,0,1,0 " + b"\r\n6,0,0,0", *(ends for ends, _ in known.ENDS)]
     return [(pieces, answers(whole)) for i, whole in enumerate(data) for _, pieces in feeding.pieces_for(whole, i)]
 

@@ -129,7 +129,7 @@ static void long_line(struct text input)
     pair_free(&pair);
 }
 
-/* The last of each pattern begins with a good line, which the rest spoils. */
+/* The last of each pattern begins with a good line, which all but a few digits more spoil. */
 static void lines_of(size_t len)
 {
     for (size_t p = 0; p < PATTERNS; p++) {

@@ -1,4 +1,4 @@
-/* "What the numbers mean is the library's business; any numbers are answered": whatever stands in a reader, no more is taken
+/* "What other numbers mean is the library's business; any are answered": whatever stands in a reader, no more is taken
    and written than there is, and the end of the input leaves nothing held. */
 #include "suites.h"
 

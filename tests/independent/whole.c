@@ -4,9 +4,6 @@
 
 #include <stdlib.h>
 
-/* The header: "The longest line of answer, with its CR LF." */
-enum { ROOM = 31 };
-
 /* The next line and the place where it ends; false if nothing is left. */
 static bool split_off(struct text *rest, size_t len, struct line *line)
 {
@@ -53,7 +50,7 @@ static bool ends_within(const struct whole *whole, size_t bytes)
 struct owed whole_take(struct whole *whole, struct heap *heap, size_t len, size_t room, char *out)
 {
     size_t from = whole->taken, to = from + len, written = 0;
-    while (whole->taken < to && room - written >= ROOM) {
+    while (whole->taken < to && room - written >= REPLY_MAX) {
         bool ends = ends_within(whole, to);
         whole->taken = ends ? whole->lines[whole->answered].end : to;
         if (ends)
@@ -68,7 +65,7 @@ struct owed whole_end(struct whole *whole, struct heap *heap, size_t room, char 
 {
     if (whole->answered == whole->count)
         return (struct owed){ .done = true };
-    if (room < ROOM)
+    if (room < REPLY_MAX)
         return (struct owed){ .done = false };
     return (struct owed){ .written = answer_next(whole, heap, out), .done = true };
 }

@@ -20,8 +20,8 @@ enum Served {
     Over,
 }
 
-// Room for one read. Each of its bytes ends at most one line, so the answers, at most 31 bytes each, fit the 65,536 bytes of `out`.
-fn room() -> [u8; 2048]
+// For one read. Each of its bytes ends at most one line, so the answers, at most 31 bytes each, fit the 65,536 bytes of `out`.
+fn read_buffer() -> [u8; 2048]
     ensures { λ r. ⌜ 2048 ≡ length r ⌝ }
 {
     [0; 2048]
@@ -120,7 +120,7 @@ fn serve(
         (tables (now (kind .entry)) (now (flags .entry)) (now (count .entry)) (now (slots .entry)) (now (roots .entry)) (now (queue .entry)) (now (control .entry)))
         (tables (now (kind .exit)) (now (flags .exit)) (now (count .exit)) (now (slots .exit)) (now (roots .exit)) (now (queue .exit)) (now (control .exit))) r ⌝ }
 {
-    let mut input = room();
+    let mut input = read_buffer();
     let got = libc::read(libc::STDIN_FILENO, &mut input);
     if got < 0 {
         os::fail(b"read");
@@ -155,7 +155,7 @@ fn serve(
     )
 }
 
-// A fresh heap has 0 in every entry. `out` is made once, since 65,536 zeros for each read would cost as much as the lines.
+// A fresh heap has 0 in every entry. `out` is made once: 65,536 zeros for each read would cost half as much again as its lines.
 // A proved loop has to end, and nothing says that the input does: the loop counts down from a number of reads that no run makes.
 fn run() {
     let mut kind = [0u16; 256];

@@ -9,7 +9,7 @@ use lib.Dec.{eqb, leb, ltb}
 use lib.ListN.{length}
 use borrow.Author.Tests.{leb-true, leb-false, eqb-true}
 use Rattle.csv.specs.Lines.{all, ontoFirst, fieldsOf, isDigit, valueOf, isNumber, four, recordOfFields, recordOf}
-use Rattle.csv.specs.Reading.{skipping, comma, digit, inLine, withCr, plain, recordSoFar, fed, LongLine, Holds, none, byte, Skipped}
+use Rattle.csv.specs.Reading.{skipping, comma, digit, inLine, withCr, plain, recordSoFar, fed, LongLine, WithinLine, none, byte, Skipped}
 use Rattle.csv.specs.declared.reader.Record.the-variants.{Malformed}
 use Rattle.csv.specs.declared.reader.Reader.{Reader}
 use Rattle.csv.specs.declared.reader.Step.{Step}
@@ -136,7 +136,7 @@ after-fed n s b h = go (eqb (s .cr) 0) (eqb b 10) refl
     go false false e = skips (skips-on b)
 
 -- a line that is not skipped has at most three finished fields, five digits and a CR: 24 bytes
-skips-long : (n : ℕ) {s t : Reader} {l : List ℕ} → Holds s l t → After n s → 24 < n + length l → Skips t
+skips-long : (n : ℕ) {s t : Reader} {l : List ℕ} → WithinLine s l t → After n s → 24 < n + length l → Skips t
 skips-long n none (skips h) long = h
 skips-long n none (counted h f d c) long = absurd (omega arith)
 skips-long n {s} (byte b next e h) a long = skips-long (suc n) h (subst (AfterStep (suc n)) e (after-fed n s b a)) (omega arith)

@@ -89,10 +89,10 @@ abbrev pub LongLine : Type 0
 LongLine = (l : List ℕ) → 64 < length l → recordOf l ≡ Malformed
 
 -- these bytes lead from one reader to another, and end no line
-pub data Holds : Reader → List ℕ → Reader → Type 0 where
-  none : {s : Reader} → Holds s [] s
-  byte : {s t : Reader} (b : ℕ) {rest : List ℕ} (next : Reader) → fed s b ≡ More next → Holds next rest t → Holds s (b ∷ rest) t
+pub data WithinLine : Reader → List ℕ → Reader → Type 0 where
+  none : {s : Reader} → WithinLine s [] s
+  byte : {s t : Reader} (b : ℕ) {rest : List ℕ} (next : Reader) → fed s b ≡ More next → WithinLine next rest t → WithinLine s (b ∷ rest) t
 
 -- "is skipped to its CR LF without being stored": whatever the first bytes of a line were, with more than 64 of them the reader knows no more than that it is skipping
 abbrev pub Skipped : Type 0
-Skipped = (l : List ℕ) (t : Reader) → Holds readerStart l t → 64 < length l → (t ≡ skipping) ⊎ (t ≡ withCr skipping)
+Skipped = (l : List ℕ) (t : Reader) → WithinLine readerStart l t → 64 < length l → (t ≡ skipping) ⊎ (t ≡ withCr skipping)

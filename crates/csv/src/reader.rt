@@ -115,11 +115,11 @@ fn next(s: Reader, byte: u8) -> Reader
         t.cr = 1;
         return t;
     }
-    take(s, byte)
+    in_line(s, byte)
 }
 
 // A byte of a line.
-fn take(s: Reader, byte: u8) -> Reader
+fn in_line(s: Reader, byte: u8) -> Reader
     ensures { λ r. ⌜ r ≡ inLine s byte ⌝ }
 {
     if byte == 44 {

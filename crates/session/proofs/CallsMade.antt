@@ -6,7 +6,7 @@ use Rattle.csv.specs.declared.reader.Record.{Record}
 use Rattle.rules.specs.Heap.{Heap, fresh, cells}
 use Rattle.rules.specs.Refusals.{Call}
 use Rattle.rules.specs.Refusals.Call.{FRESH}
-use Rattle.rules.specs.Calls.{Result, answers, refuse, done, step, Between, run}
+use Rattle.rules.specs.Calls.{Result, answers, refuse, done, step, Event, Trace, Between, run}
 use Rattle.rules.specs.Calls.Between.{first, behind}
 use Rattle.rules.specs.Asked.{Asked, obey}
 use Rattle.rules.specs.Asked.Asked.{call, LINE}
@@ -15,7 +15,7 @@ use Rattle.laws.specs.Demand.Events.{run-trace}
 use Rattle.laws.specs.Demand.Third.{demand-3}
 use Rattle.session.specs.Session.{askedOf, numberOf, lineOf, afterLine, session, afterAll}
 use Rattle.session.specs.Program.{atStart}
-use Rattle.session.specs.CallsMade.{inFront, callsOf, made, Lined, LinesKeep, ProgramBegins}
+use Rattle.session.specs.CallsMade.{inFront, callsOf, made, Lined, left, LinesKeep, ProgramBegins}
 use Rattle.session.specs.CallsMade.Lined.{noLines, called, refusedLine}
 
 -- ---- the calls that lines ask for
@@ -44,15 +44,32 @@ unfolding callsOf afterAll
 between-lines h [] q = first
 between-lines h (r ∷ p) q = between-one h (afterAll (afterLine h r) p) (askedOf r) (callsOf (p ++ q)) (between-lines (afterLine h r) p q)
 
+-- ---- behind other calls
+
+trace-append : (h : Heap) (es fs : List Event) → Trace h es → Trace (left h es) fs → Trace h (es ++ fs)
+unfolding left
+trace-append h [] fs t u = u
+trace-append h (e ∷ es) fs t u = (t .0, trace-append (e .after) es fs (t .1) u)
+
+between-append : (h g : Heap) (es fs : List Event) → Between (left h es) fs g → Between h (es ++ fs) g
+unfolding left
+between-append h g [] fs b = b
+between-append h g (e ∷ es) fs b = behind (between-append (e .after) g es fs b)
+
 -- ---- from a FRESH done
 
 pub lines-keep : LinesKeep
-lines-keep h b rs = record {
-  trace = run-trace h (callsOf rs);
-  lines = all-lined h rs;
-  between = λ p q e. subst⁻¹ (λ (l : List Record). Between h (run h (callsOf l)) (afterAll h p)) e (between-lines h p q);
-  claim = demand-3 h b (made h rs) (run-trace h (callsOf rs));
-}
+lines-keep h b es t rs =
+    let k : Heap = left h es in
+    let whole : Trace h (es ++ made k rs) = trace-append h es (made k rs) t (run-trace k (callsOf rs)) in
+    record {
+      trace = whole;
+      lines = all-lined k rs;
+      between = λ p q e.
+          between-append h (afterAll k p) es (made k rs)
+          (subst⁻¹ (λ (l : List Record). Between k (run k (callsOf l)) (afterAll k p)) e (between-lines k p q));
+      claim = demand-3 h b (es ++ made k rs) whole;
+    }
 
 pub program-begins : ProgramBegins
 unfolding done fresh

@@ -24,24 +24,24 @@ use Rattle.laws.specs.Calls.Asked.{asksFresh, never-fresh}
 use Rattle.laws.specs.Demand.Step.{admission-kept}
 use Rattle.session.specs.declared.taking.Progress.{Progress}
 use Rattle.session.specs.Session.{askedOf, lineFor, afterLine}
-use Rattle.session.specs.Taking.{heapAfter, readerAfter, textFor, Stand, begun, took, takes, ends, Gave, BytesTaken, TookByte}
+use Rattle.session.specs.Taking.{heapAfter, readerAfter, textFor, State, begun, advance, takes, ends, Gave, BytesTaken, ByteTaken}
 
 -- ---- one byte
 
 -- it ends no line
 pub took-held : (s : Step) (t : Reader) (taken : ℕ) (out : List ℕ) (at : ℕ) (h : Heap) (r : Progress) → s ≡ More t
-    → r .reader ≡ t → r .taken ≡ taken → r .written ≡ at → TookByte s taken out at h h out r
+    → r .reader ≡ t → r .taken ≡ taken → r .written ≡ at → ByteTaken s taken out at h h out r
 unfolding heapAfter readerAfter textFor
-took-held s t taken out at h r e p q w = subst⁻¹ (λ (x : Step). TookByte x taken out at h h out r) e
+took-held s t taken out at h r e p q w = subst⁻¹ (λ (x : Step). ByteTaken x taken out at h h out r) e
     (record { heap = refl; reader = p; count = q; wrote = subst⁻¹ (Wrote out at [] out) w (wrote-nothing out at); room = omega arith })
 
 -- it ends a line, which is answered
 pub took-line : (s : Step) (l : Record) (taken : ℕ) (out : List ℕ) (at : ℕ) (h k : Heap) (end : List ℕ) (r : Progress) → s ≡ Line l
     → k ≡ afterLine h l → r .reader ≡ readerStart → r .taken ≡ taken → Wrote out at (lineFor h l) end (r .written) → r .written ≤ at + 31
-    → TookByte s taken out at h k end r
+    → ByteTaken s taken out at h k end r
 unfolding heapAfter readerAfter textFor
 took-line s l taken out at h k end r e g p q w m =
-    subst⁻¹ (λ (x : Step). TookByte x taken out at h k end r) e (record { heap = g; reader = p; count = q; wrote = w; room = m })
+    subst⁻¹ (λ (x : Step). ByteTaken x taken out at h k end r) e (record { heap = g; reader = p; count = q; wrote = w; room = m })
 
 -- ---- whether the tables are admitted
 
@@ -57,12 +57,12 @@ admission-after h (Line l) = admission-kept h (askedOf l) (lines-never-fresh l)
 
 -- as before the byte
 pub took-admission : {s : Step} {taken at why : ℕ} {before after : List ℕ} {h k : Heap} {r : Progress}
-    → TookByte s taken before at h k after r → why ≡ admission h → why ≡ admission k
+    → ByteTaken s taken before at h k after r → why ≡ admission h → why ≡ admission k
 took-admission {s} {h = h} t e = e ∙ sym (admission-after h s) ∙ ap admission (sym (t .heap))
 
 -- ---- what was written, as the whole room shows it
 
-gave : (x : Stand) (before : List ℕ) (k : Heap) (out : List ℕ) (r : Progress) → k ≡ x .heap → r .reader ≡ x .reader → r .taken ≡ x .taken
+gave : (x : State) (before : List ℕ) (k : Heap) (out : List ℕ) (r : Progress) → k ≡ x .heap → r .reader ≡ x .reader → r .taken ≡ x .taken
     → Wrote before 0 (x .text) out (r .written) → r .written ≤ length before → Gave x before k out r
 gave x before k out r h p q w m =
     let text : List ℕ = x .text in
@@ -72,15 +72,14 @@ gave x before k out r h p q w m =
     record {
       heap = h;
       progress = λ i. record { reader = p i; taken = q i; written = end i };
-      room = omega arith;
       out = w .bytes ∙ sets-eq text before 0 fits ∙ ap (λ (n : ℕ). text ++ drop n before) plain;
     }
 
 -- ---- byte after byte
 
--- where it stands, by what was said and written
-abbrev stand : Heap → Progress → List ℕ → Stand
-stand k p text = record { heap = k; reader = p .reader; taken = p .taken; text = text }
+-- by what was said and written
+abbrev state : Heap → Progress → List ℕ → State
+state k p text = record { heap = k; reader = p .reader; taken = p .taken; text = text }
 
 -- Some of the bytes are taken: what the rest of them will give is what all of them give. No answer has more than 31 bytes.
 pub record Underway (before : List ℕ) (h : Heap) (s : Reader) (bytes : List ℕ) (k : Heap) (out : List ℕ) (p : Progress) : Type 0 where
@@ -89,7 +88,7 @@ pub record Underway (before : List ℕ) (h : Heap) (s : Reader) (bytes : List �
   pub room : p .written ≤ length before
   pub within : p .taken ≤ length bytes
   pub each : p .written ≤ 31 * p .taken
-  pub goal : takes (length before) (begun h s) bytes ≡ takes (length before) (stand k p text) (drop (p .taken) bytes)
+  pub goal : takes (length before) (begun h s) bytes ≡ takes (length before) (state k p text) (drop (p .taken) bytes)
 
 pub underway-begin : (before : List ℕ) (h : Heap) (s : Reader) (bytes : List ℕ) → Underway before h s bytes h before (record { reader = s; taken = 0; written = 0 })
 underway-begin before h s bytes = record {
@@ -101,20 +100,20 @@ underway-begin before h s bytes = record {
   goal = refl;
 }
 
-takes-one : (room : ℕ) (x : Stand) (bytes : List ℕ) → x .taken < length bytes → length (x .text) + 31 ≤ room
-    → takes room x (drop (x .taken) bytes) ≡ takes room (took x (fed (x .reader) (getD bytes (x .taken) 0))) (drop (x .taken + 1) bytes)
+takes-one : (room : ℕ) (x : State) (bytes : List ℕ) → x .taken < length bytes → length (x .text) + 31 ≤ room
+    → takes room x (drop (x .taken) bytes) ≡ takes room (advance x (fed (x .reader) (getD bytes (x .taken) 0))) (drop (x .taken + 1) bytes)
 unfolding takes
 takes-one room x bytes m l = rw (drop-cons bytes (x .taken) 0 m, le-leb (length (x .text) + 31) room l, add-one) refl
 
 pub underway-byte : (before : List ℕ) (h : Heap) (s : Reader) (bytes : List ℕ) (k m : Heap) (out end : List ℕ) (p r : Progress)
     → Underway before h s bytes k out p → p .taken < length bytes → p .written + 31 ≤ length before
-    → TookByte (fed (p .reader) (getD bytes (p .taken) 0)) (p .taken + 1) out (p .written) k m end r
+    → ByteTaken (fed (p .reader) (getD bytes (p .taken) 0)) (p .taken + 1) out (p .written) k m end r
     → Underway before h s bytes m end r
-unfolding took
+unfolding advance
 underway-byte before h s bytes k m out end p r u less room t =
     let step : Step = fed (p .reader) (getD bytes (p .taken) 0) in
-    let x : Stand = stand k p (u .text) in
-    let same : took x step ≡ stand m r (u .text ++ textFor k step) =
+    let x : State = state k p (u .text) in
+    let same : advance x step ≡ state m r (u .text ++ textFor k step) =
     λ i. record { heap = sym (t .heap) i; reader = sym (t .reader) i; taken = sym (t .count) i; text = u .text ++ textFor k step } in
     record {
       text = u .text ++ textFor k step;
@@ -124,16 +123,16 @@ underway-byte before h s bytes k m out end p r u less room t =
       each = omega (arith, t .count, t .room, u .each);
       goal =
           u .goal ∙ takes-one (length before) x bytes less (omega (arith, u .wrote .end))
-          ∙ ap (λ (n : ℕ). takes (length before) (took x step) (drop n bytes)) (sym (t .count))
-          ∙ ap (λ (y : Stand). takes (length before) y (drop (r .taken) bytes)) same;
+          ∙ ap (λ (n : ℕ). takes (length before) (advance x step) (drop n bytes)) (sym (t .count))
+          ∙ ap (λ (y : State). takes (length before) y (drop (r .taken) bytes)) same;
     }
 
 -- nothing more is taken
 stopped : (before : List ℕ) (h : Heap) (s : Reader) (bytes : List ℕ) (k : Heap) (out : List ℕ) (p : Progress) (u : Underway before h s bytes k out p)
-    → takes (length before) (stand k p (u .text)) (drop (p .taken) bytes) ≡ stand k p (u .text)
+    → takes (length before) (state k p (u .text)) (drop (p .taken) bytes) ≡ state k p (u .text)
     → BytesTaken s h bytes before k out p
 stopped before h s bytes k out p u e =
-    subst⁻¹ (λ (y : Stand). Gave y before k out p) (u .goal ∙ e) (gave (stand k p (u .text)) before k out p refl refl refl (u .wrote) (u .room))
+    subst⁻¹ (λ (y : State). Gave y before k out p) (u .goal ∙ e) (gave (state k p (u .text)) before k out p refl refl refl (u .wrote) (u .room))
 
 -- since no room is left for an answer
 pub underway-full : (before : List ℕ) (h : Heap) (s : Reader) (bytes : List ℕ) (k : Heap) (out : List ℕ) (p : Progress)

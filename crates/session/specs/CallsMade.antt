@@ -35,17 +35,22 @@ pub data Lined : List Record → List Event → List ℕ → Type 0 where
   refusedLine : {rs : List Record} {es : List Event} {w : List ℕ} (r : Record) → askedOf r ≡ LINE → Lined rs es w
       → Lined (r ∷ rs) es (lineOf (numberOf r) (answers 11 0 0 0) ++ w)
 
--- The claim that ties lines to demand 3: where a FRESH was done, what is done for lines, be they of one input or of several, one after another, is a list of
--- calls that starts from it, so demand 3's claim holds of it.
-pub record Keeps (h : Heap) (rs : List Record) : Type 0 where
-  pub trace : Trace h (made h rs)
-  pub lines : Lined rs (made h rs) (session h rs)
+-- the tables that a list of calls leaves
+unfoldable pub left : Heap → List Event → Heap
+left h [] = h
+left h (e ∷ es) = left (e .after) es
+
+-- The claim that ties lines to demand 3. From a FRESH done some calls were made, by entries or by lines, and lines come behind them, of one input or of
+-- several: all of it is a list of calls that starts from that FRESH, so demand 3's claim holds of it.
+pub record Keeps (h : Heap) (es : List Event) (rs : List Record) : Type 0 where
+  pub trace : Trace h (es ++ made (left h es) rs)
+  pub lines : Lined rs (made (left h es) rs) (session (left h es) rs)
   -- the tables after any of the lines are tables between those calls
-  pub between : (p q : List Record) → rs ≡ p ++ q → Between h (made h rs) (afterAll h p)
-  pub claim : Claim h (made h rs)
+  pub between : (p q : List Record) → rs ≡ p ++ q → Between h (es ++ made (left h es) rs) (afterAll (left h es) p)
+  pub claim : Claim h (es ++ made (left h es) rs)
 
 abbrev pub LinesKeep : Type 0
-LinesKeep = (h : Heap) → Begins h → (rs : List Record) → Keeps h rs
+LinesKeep = (h : Heap) → Begins h → (es : List Event) → Trace h es → (rs : List Record) → Keeps h es rs
 
 -- the program starts so
 abbrev pub ProgramBegins : Type 0

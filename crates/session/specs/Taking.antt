@@ -34,38 +34,37 @@ textFor h (Line l) = lineFor h l
 
 -- ---- the bytes that have come
 
--- where it stands: the tables, the reader, how many of the bytes are taken, and the answers to the lines that have ended
-pub record Stand : Type 0 where
+-- the tables, the reader, how many of the bytes are taken, and the answers to the lines that have ended
+pub record State : Type 0 where
   pub heap : Heap
   pub reader : Reader
   pub taken : ℕ
   pub text : List ℕ
 
 -- before the first of them
-abbrev pub begun : Heap → Reader → Stand
+abbrev pub begun : Heap → Reader → State
 begun h s = record { heap = h; reader = s; taken = 0; text = [] }
 
-unfoldable pub took : Stand → Step → Stand
-took x s = record { heap = heapAfter (x .heap) s; reader = readerAfter s; taken = x .taken + 1; text = x .text ++ textFor (x .heap) s }
+unfoldable pub advance : State → Step → State
+advance x s = record { heap = heapAfter (x .heap) s; reader = readerAfter s; taken = x .taken + 1; text = x .text ++ textFor (x .heap) s }
 
 -- bytes are taken while an answer, which has at most 31 bytes, has room behind those that are written
-unfoldable pub takes : ℕ → Stand → List ℕ → Stand
+unfoldable pub takes : ℕ → State → List ℕ → State
 takes room x [] = x
-takes room x (b ∷ rest) = cond (leb (length (x .text) + 31) room) (takes room (took x (fed (x .reader) b)) rest) x
+takes room x (b ∷ rest) = cond (leb (length (x .text) + 31) room) (takes room (advance x (fed (x .reader) b)) rest) x
 
 -- ---- the end: "Ending the input closes an unfinished line; nothing is held after that"
 
 -- by what the end gives; without room for an answer nothing is done, and the reader stays
-unfoldable pub ends : ℕ → Heap → Reader → Last → Stand
+unfoldable pub ends : ℕ → Heap → Reader → Last → State
 ends room h s Nothing = begun h readerStart
 ends room h s (Final l) = cond (leb 31 room) (record { heap = afterLine h l; reader = readerStart; taken = 0; text = lineFor h l }) (begun h s)
 
--- ---- what a function gives: tables, progress and the bytes of the room stand as x says; behind the text they are as before
+-- ---- what a function gives: tables and progress are those of x; its text is at the front of the room, and every byte behind it is as before
 
-pub record Gave (x : Stand) (before : List ℕ) (k : Heap) (after : List ℕ) (r : Progress) : Type 0 where
+pub record Gave (x : State) (before : List ℕ) (k : Heap) (after : List ℕ) (r : Progress) : Type 0 where
   pub heap : k ≡ x .heap
   pub progress : r ≡ record { reader = x .reader; taken = x .taken; written = length (x .text) }
-  pub room : length (x .text) ≤ length before
   pub out : after ≡ x .text ++ drop (length (x .text)) before
 
 -- these bytes had come, with this room
@@ -77,7 +76,7 @@ abbrev pub InputEnded : Reader → Heap → List ℕ → Heap → List ℕ → P
 InputEnded s h before k after r = Gave (ends (length before) h s (closed s)) before k after r
 
 -- a byte was taken, the last of `taken`, and what it gives was written at `at`
-pub record TookByte (s : Step) (taken : ℕ) (before : List ℕ) (at : ℕ) (h k : Heap) (after : List ℕ) (r : Progress) : Type 0 where
+pub record ByteTaken (s : Step) (taken : ℕ) (before : List ℕ) (at : ℕ) (h k : Heap) (after : List ℕ) (r : Progress) : Type 0 where
   pub heap : k ≡ heapAfter h s
   pub reader : r .reader ≡ readerAfter s
   pub count : r .taken ≡ taken

@@ -5,7 +5,7 @@ ghost use lib.ListN.{length};
 ghost use Rattle.csv.specs.Reading.{fed};
 ghost use Rattle.laws.specs.Calls.Admission.{admission};
 ghost use Rattle.rules.specs.Heap.{tables};
-ghost use Rattle.session.specs.Taking.{TookByte, BytesTaken};
+ghost use Rattle.session.specs.Taking.{ByteTaken, BytesTaken};
 use crate::line::ROOM;
 use crate::line::answer;
 use csv::reader::Reader;
@@ -40,7 +40,7 @@ fn take_byte(
 ) -> Progress
     requires { ⌜ why ≡ admission (tables (now kind) (now flags) (now count) (now slots) (now roots) (now queue) (now control)) ⌝ }
     requires { ⌜ at + 31 ≤ length (now out) ⌝ }
-    ensures { λ r. ⌜ TookByte (fed reader byte) taken (now (out .entry)) at
+    ensures { λ r. ⌜ ByteTaken (fed reader byte) taken (now (out .entry)) at
         (tables (now (kind .entry)) (now (flags .entry)) (now (count .entry)) (now (slots .entry)) (now (roots .entry)) (now (queue .entry)) (now (control .entry)))
         (tables (now (kind .exit)) (now (flags .exit)) (now (count .exit)) (now (slots .exit)) (now (roots .exit)) (now (queue .exit)) (now (control .exit)))
         (now (out .exit)) r ⌝ }
@@ -65,8 +65,9 @@ fn take_byte(
                 out,
                 at,
             );
+            let nothing = start();
             Progress {
-                reader: start(),
+                reader: nothing,
                 taken,
                 written,
             }

@@ -9,7 +9,7 @@ returns : tie.Need-returns
 returns c = held-back _ _ (omega arith)
 
 returns-2 : tie.Need-returns-2
-returns-2 c = c .take .ensures ∙ line-byte _ _ (λ e. omega arith)
+returns-2 c = c .in-line .ensures ∙ line-byte _ _ (λ e. omega arith)
 
 pub next-spec : {M : Type 1} → statement M
 next-spec = tie.close (tie.spec returns (λ c κs. tt) returns-2)
