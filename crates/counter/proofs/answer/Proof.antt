@@ -2,7 +2,8 @@
 use native.Mathlib.Omega.{arith}
 use mathlib.Core.Path.{sym}
 use lib.Seq.{length-take-le}
-use Rattle.session.proofs.Delivery.{gave-fits, all-taken}
+use Rattle.session.proofs.Delivery.{gave-fits}
+use Rattle.session.proofs.GettingOn.{all-taken}
 use Rattle.counter.proofs.answer.Statement.{statement}
 use Rattle.counter.proofs.answer.Tie as tie
 
