@@ -22,11 +22,11 @@
  * The library keeps no state of its own, so heaps of different threads don't meet: two threads may each make calls
  * on a heap of their own at the same time. One heap is for one call at a time.
  *
- * What you get, proved for every list of calls from a vek_fresh that is done, if nobody else writes the tables
- * in between: no call frees a cell that your roots or the queue still reach; after each vek_collect that is
- * done the used cells are just the reached ones; and without a sweep the same holds exactly when no unreached
- * cells refer to each other, or one to itself, in a ring. Exactly then, too, a vek_collect made next frees and
- * queues nothing.
+ * What you get, proved for every list of calls from a vek_fresh that is done, made one by one or as lines of text,
+ * if nobody else writes the tables in between: no call frees a cell that your roots or the queue still reach; after
+ * each vek_collect that is done the used cells are just the reached ones; and without a sweep the same holds exactly
+ * when no unreached cells refer to each other, or one to itself, in a ring. Exactly then, too, a vek_collect made next
+ * frees and queues nothing.
  *
  * A call answers four numbers. `refused` is VEK_DONE or why nothing was done; a refused call changes no entry
  * of any table and answers freed 0, queued 0, cell 0. `freed` is the number of cells that were used before

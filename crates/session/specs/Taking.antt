@@ -45,6 +45,7 @@ pub record State : Type 0 where
 abbrev pub begun : Heap → Reader → State
 begun h s = record { heap = h; reader = s; taken = 0; text = [] }
 
+-- a byte more, by what it gives
 unfoldable pub advance : State → Step → State
 advance x s = record { heap = heapAfter (x .heap) s; reader = readerAfter s; taken = x .taken + 1; text = x .text ++ textFor (x .heap) s }
 

@@ -1,7 +1,7 @@
 // The end of the input.
 ghost use Rattle.rules.specs.Heap.{tables};
 ghost use Rattle.session.specs.Taking.{InputEnded};
-use crate::line::ROOM;
+use crate::line::ANSWER_LEN;
 use crate::line::answer;
 use crate::taking::Progress;
 use csv::reader::Last;
@@ -35,7 +35,7 @@ pub fn end(
             written: 0,
         },
         Last::Final(said) => {
-            if out.len() < ROOM {
+            if out.len() < ANSWER_LEN {
                 return Progress {
                     reader,
                     taken: 0,

@@ -19,7 +19,7 @@ use steps::names_call;
 use steps::step;
 
 // The most bytes that an output line takes.
-pub const ROOM: usize = 31;
+pub const ANSWER_LEN: usize = 31;
 
 // The call's number in an output line: a line that is refused LINE has 0 as its call.
 fn number_of(op: u16, refused: u16) -> u16

@@ -6,7 +6,7 @@ ghost use Rattle.csv.specs.Reading.{fed};
 ghost use Rattle.laws.specs.Calls.Admission.{admission};
 ghost use Rattle.rules.specs.Heap.{tables};
 ghost use Rattle.session.specs.Taking.{ByteTaken, BytesTaken};
-use crate::line::ROOM;
+use crate::line::ANSWER_LEN;
 use crate::line::answer;
 use csv::reader::Reader;
 use csv::reader::Step;
@@ -105,7 +105,7 @@ pub fn take(
         let held = p.reader;
         let taken = p.taken;
         let at = p.written;
-        if out.len() - at < ROOM {
+        if out.len() - at < ANSWER_LEN {
             return p;
         }
         p = take_byte(

@@ -5,6 +5,12 @@ use Rattle.session.proofs.Delivery.{gave-fits}
 use Rattle.counter.proofs.close.Statement.{statement}
 use Rattle.counter.proofs.close.Tie as tie
 
+-- where the call has returned that may write the tables
+abbrev after-end : tie.After-write → tie.After-end
+after-end c =
+    c .before .before .before .before .before .before .before .before .before .before .before .before .before .before .before .before .before
+    .before
+
 slice-aggregate-write : tie.Need-slice-aggregate-write
 slice-aggregate-write c =
     let end =
@@ -20,28 +26,12 @@ close-spec =
     (λ c. gave-fits (c .before .before .before .before .before .before .before .before .before .before .before .before .before .before .before .before .end .ensures))
     slice-aggregate-write
     (λ c κs. tt)
-    (λ c.
-    c .before .before .before .before .before .before .before .before .before .before .before .before .before .before .before .before .before
-    .before .end .kept .0)
-    (λ c.
-    c .before .before .before .before .before .before .before .before .before .before .before .before .before .before .before .before .before
-    .before .end .kept .1 .0)
-    (λ c.
-    c .before .before .before .before .before .before .before .before .before .before .before .before .before .before .before .before .before
-    .before .end .kept .1 .1 .0)
-    (λ c.
-    c .before .before .before .before .before .before .before .before .before .before .before .before .before .before .before .before .before
-    .before .end .kept .1 .1 .1 .0)
-    (λ c.
-    c .before .before .before .before .before .before .before .before .before .before .before .before .before .before .before .before .before
-    .before .end .kept .1 .1 .1 .1 .0)
-    (λ c.
-    c .before .before .before .before .before .before .before .before .before .before .before .before .before .before .before .before .before
-    .before .end .kept .1 .1 .1 .1 .1 .0)
-    (λ c.
-    c .before .before .before .before .before .before .before .before .before .before .before .before .before .before .before .before .before
-    .before .end .kept .1 .1 .1 .1 .1 .1 .0)
-    (λ c.
-    c .before .before .before .before .before .before .before .before .before .before .before .before .before .before .before .before .before
-    .before .end .kept .1 .1 .1 .1 .1 .1 .1 .1 .0)
+    (λ c. after-end c .end .kept .0)
+    (λ c. after-end c .end .kept .1 .0)
+    (λ c. after-end c .end .kept .1 .1 .0)
+    (λ c. after-end c .end .kept .1 .1 .1 .0)
+    (λ c. after-end c .end .kept .1 .1 .1 .1 .0)
+    (λ c. after-end c .end .kept .1 .1 .1 .1 .1 .0)
+    (λ c. after-end c .end .kept .1 .1 .1 .1 .1 .1 .0)
+    (λ c. after-end c .end .kept .1 .1 .1 .1 .1 .1 .1 .1 .0)
     (λ c. tt))

@@ -14,18 +14,26 @@ use Rattle.rules.specs.Asked.Asked.{call, LINE}
 use Rattle.laws.specs.Lists.Tests.{clash}
 use Rattle.laws.specs.Calls.Admission.{admission, outer-refused}
 
+-- a number is one of 0 to 8, or above
+by-number : (P : ℕ → Type 0) → P 0 → P 1 → P 2 → P 3 → P 4 → P 5 → P 6 → P 7 → P 8
+    → ((n : ℕ) → P (suc (suc (suc (suc (suc (suc (suc (suc (suc n)))))))))) → (n : ℕ) → P n
+by-number P a b c d e f g h i j zero = a
+by-number P a b c d e f g h i j (suc zero) = b
+by-number P a b c d e f g h i j (suc (suc zero)) = c
+by-number P a b c d e f g h i j (suc (suc (suc zero))) = d
+by-number P a b c d e f g h i j (suc (suc (suc (suc zero)))) = e
+by-number P a b c d e f g h i j (suc (suc (suc (suc (suc zero))))) = f
+by-number P a b c d e f g h i j (suc (suc (suc (suc (suc (suc zero)))))) = g
+by-number P a b c d e f g h i j (suc (suc (suc (suc (suc (suc (suc zero))))))) = h
+by-number P a b c d e f g h i j (suc (suc (suc (suc (suc (suc (suc (suc zero)))))))) = i
+by-number P a b c d e f g h i j (suc (suc (suc (suc (suc (suc (suc (suc (suc n))))))))) = j n
+
 pub uses-three : (n : ℕ) → ((n ≡ 6) ⊎ (n ≡ 8) → ⊥) → ((n ≡ 2) ⊎ (n ≡ 7) → ⊥) → (n ≡ 3 → ⊥) → uses n ≡ 3
 unfolding uses
-uses-three zero f g h = refl
-uses-three (suc zero) f g h = refl
-uses-three (suc (suc zero)) f g h = absurd (g (inl refl))
-uses-three (suc (suc (suc zero))) f g h = absurd (h refl)
-uses-three (suc (suc (suc (suc zero)))) f g h = refl
-uses-three (suc (suc (suc (suc (suc zero))))) f g h = refl
-uses-three (suc (suc (suc (suc (suc (suc zero)))))) f g h = absurd (f (inl refl))
-uses-three (suc (suc (suc (suc (suc (suc (suc zero))))))) f g h = absurd (g (inr refl))
-uses-three (suc (suc (suc (suc (suc (suc (suc (suc zero)))))))) f g h = absurd (f (inr refl))
-uses-three (suc (suc (suc (suc (suc (suc (suc (suc (suc n))))))))) f g h = refl
+uses-three =
+    by-number (λ n. ((n ≡ 6) ⊎ (n ≡ 8) → ⊥) → ((n ≡ 2) ⊎ (n ≡ 7) → ⊥) → (n ≡ 3 → ⊥) → uses n ≡ 3)
+    (λ f g h. refl) (λ f g h. refl) (λ f g h. absurd (g (inl refl))) (λ f g h. absurd (h refl)) (λ f g h. refl) (λ f g h. refl)
+    (λ f g h. absurd (f (inl refl))) (λ f g h. absurd (g (inr refl))) (λ f g h. absurd (f (inr refl))) (λ n f g h. refl)
 
 none-numbered : (n x y z : ℕ) → 9 ≤ n → callNumbered n x y z ≡ LINE
 unfolding callNumbered
@@ -75,16 +83,10 @@ above-names-none n x y z h e = rw (call-used n x y z h, none-numbered n x y z e)
 
 numbered-call : (n x y z : ℕ) → 1 ≤ n → n ≤ 8 → true ≡ isCall (callNumbered n x y z)
 unfolding callNumbered isCall
-numbered-call zero x y z h k = absurd (omega arith)
-numbered-call (suc zero) x y z h k = refl
-numbered-call (suc (suc zero)) x y z h k = refl
-numbered-call (suc (suc (suc zero))) x y z h k = refl
-numbered-call (suc (suc (suc (suc zero)))) x y z h k = refl
-numbered-call (suc (suc (suc (suc (suc zero))))) x y z h k = refl
-numbered-call (suc (suc (suc (suc (suc (suc zero)))))) x y z h k = refl
-numbered-call (suc (suc (suc (suc (suc (suc (suc zero))))))) x y z h k = refl
-numbered-call (suc (suc (suc (suc (suc (suc (suc (suc zero)))))))) x y z h k = refl
-numbered-call (suc (suc (suc (suc (suc (suc (suc (suc (suc n))))))))) x y z h k = absurd (omega arith)
+numbered-call n x y z =
+    by-number (λ m. 1 ≤ m → m ≤ 8 → true ≡ isCall (callNumbered m x y z))
+    (λ h k. absurd (omega arith)) (λ h k. refl) (λ h k. refl) (λ h k. refl) (λ h k. refl) (λ h k. refl) (λ h k. refl) (λ h k. refl) (λ h k. refl)
+    (λ m h k. absurd (omega arith)) n
 
 pub names-call : (n x y z : ℕ) → unusedZero (uses n) x y z ≡ true → 1 ≤ n → n ≤ 8 → true ≡ isCall (callOf n x y z)
 names-call n x y z h l m = rw (call-used n x y z h) (numbered-call n x y z l m)
@@ -97,16 +99,8 @@ asksFresh LINE = false
 
 numbered-never-fresh : (n x y z : ℕ) → asksFresh (callNumbered n x y z) ≡ false
 unfolding callNumbered asksFresh isFresh
-numbered-never-fresh zero x y z = refl
-numbered-never-fresh (suc zero) x y z = refl
-numbered-never-fresh (suc (suc zero)) x y z = refl
-numbered-never-fresh (suc (suc (suc zero))) x y z = refl
-numbered-never-fresh (suc (suc (suc (suc zero)))) x y z = refl
-numbered-never-fresh (suc (suc (suc (suc (suc zero))))) x y z = refl
-numbered-never-fresh (suc (suc (suc (suc (suc (suc zero)))))) x y z = refl
-numbered-never-fresh (suc (suc (suc (suc (suc (suc (suc zero))))))) x y z = refl
-numbered-never-fresh (suc (suc (suc (suc (suc (suc (suc (suc zero)))))))) x y z = refl
-numbered-never-fresh (suc (suc (suc (suc (suc (suc (suc (suc (suc n))))))))) x y z = refl
+numbered-never-fresh n x y z =
+    by-number (λ m. asksFresh (callNumbered m x y z) ≡ false) refl refl refl refl refl refl refl refl refl (λ m. refl) n
 
 pub never-fresh : (n x y z : ℕ) → asksFresh (callOf n x y z) ≡ false
 unfolding callOf

@@ -6,6 +6,10 @@ use borrow.Author.Needs.{needs}
 use Rattle.session.proofs.ending.end.Statement.{statement}
 use Rattle.session.proofs.ending.end.Tie as tie
 
+-- where the call has returned that may write the tables
+abbrev after-answer : tie.After-slice-known16 → tie.After-answer
+after-answer c = c .before .before .before .before .before .before .before .before .before .before .before .before .before .before .before .before
+
 returns : tie.Need-returns
 returns c =
     let end = c .before .before .before .before .end in
@@ -27,22 +31,18 @@ returns-2 c =
 returns-3 : tie.Need-returns-3
 returns-3 c =
     let end =
-    c .before .before .before .before .before .before .before .before .before .before .before .before .before .before .before .before .before
-    .before .before .before .before .before .before .before .before .before .before .before .before .before .before .before .before .before .before
-    .before .before .end in
+    after-answer c .before .before .before .before .before .before .before .before .before .before .before .before .before .before .before .before
+    .before .before .before .before .before .end in
     let said =
-    c .before .before .before .before .before .before .before .before .before .before .before .before .before .before .before .before .before
-    .before .before .before .before .before .before .before .before .before .before .before .before .before .before .before .before .before .before
-    .said in
+    after-answer c .before .before .before .before .before .before .before .before .before .before .before .before .before .before .before .before
+    .before .before .before .said in
     let if1 =
-    c .before .before .before .before .before .before .before .before .before .before .before .before .before .before .before .before .before
-    .before .before .before .before .before .before .before .before .before .before .before .before .before .before .before .before .if1 in
-    let answer =
-    c .before .before .before .before .before .before .before .before .before .before .before .before .before .before .before .before .answer in
+    after-answer c .before .before .before .before .before .before .before .before .before .before .before .before .before .before .before .before
+    .before .if1 in
+    let answer = after-answer c .answer in
     let start =
-    c .before .before .before .before .before .before .before .before .before .before .before .before .before .before .before .before .before
-    .before .before .before .before .before .before .before .before .before .before .before .before .before .before .before .before .before .before
-    .before .before .before .start in
+    after-answer c .before .before .before .before .before .before .before .before .before .before .before .before .before .before .before .before
+    .before .before .before .before .before .before .start in
     ended-line _ _ _ _ _ _ _ _ (sym (end .ensures) ∙ said .given .1) (omega (arith, if1 .left))
     (answer .ensures .0) (start .ensures) (omega arith) (answer .ensures .1 .0) (omega (arith, answer .ensures .1 .1))
 
@@ -58,28 +58,12 @@ end-spec =
     (λ c κs. tt)
     answer-requires
     returns-2
-    (λ c.
-    c .before .before .before .before .before .before .before .before .before .before .before .before .before .before .before .before .answer
-    .kept .0)
-    (λ c.
-    c .before .before .before .before .before .before .before .before .before .before .before .before .before .before .before .before .answer
-    .kept .1 .0)
-    (λ c.
-    c .before .before .before .before .before .before .before .before .before .before .before .before .before .before .before .before .answer
-    .kept .1 .1 .0)
-    (λ c.
-    c .before .before .before .before .before .before .before .before .before .before .before .before .before .before .before .before .answer
-    .kept .1 .1 .1 .0)
-    (λ c.
-    c .before .before .before .before .before .before .before .before .before .before .before .before .before .before .before .before .answer
-    .kept .1 .1 .1 .1 .0)
-    (λ c.
-    c .before .before .before .before .before .before .before .before .before .before .before .before .before .before .before .before .answer
-    .kept .1 .1 .1 .1 .1 .0)
-    (λ c.
-    c .before .before .before .before .before .before .before .before .before .before .before .before .before .before .before .before .answer
-    .kept .1 .1 .1 .1 .1 .1 .0)
-    (λ c.
-    c .before .before .before .before .before .before .before .before .before .before .before .before .before .before .before .before .answer
-    .kept .1 .1 .1 .1 .1 .1 .1 .1 .1 .0)
+    (λ c. after-answer c .answer .kept .0)
+    (λ c. after-answer c .answer .kept .1 .0)
+    (λ c. after-answer c .answer .kept .1 .1 .0)
+    (λ c. after-answer c .answer .kept .1 .1 .1 .0)
+    (λ c. after-answer c .answer .kept .1 .1 .1 .1 .0)
+    (λ c. after-answer c .answer .kept .1 .1 .1 .1 .1 .0)
+    (λ c. after-answer c .answer .kept .1 .1 .1 .1 .1 .1 .0)
+    (λ c. after-answer c .answer .kept .1 .1 .1 .1 .1 .1 .1 .1 .1 .0)
     returns-3)

@@ -7,15 +7,17 @@ use borrow.Author.Needs.{needs}
 use Rattle.session.proofs.line.answer.Statement.{statement}
 use Rattle.session.proofs.line.answer.Tie as tie
 
+-- where the call has returned that may write the tables
+abbrev after-obey : tie.After-slice-known16 → tie.After-obey
+after-obey c =
+    c .before .before .before .before .before .before .before .before .before .before .before .before .before .before .before .before .before
+    .before
+
 returns : tie.Need-returns
 unfolding askedOf numberOf
 returns c =
-    let said =
-    c .before .before .before .before .before .before .before .before .before .before .before .before .before .before .before .before .before
-    .before .before .before .before .before .before .before .before .before .before .said in
-    let obey =
-    c .before .before .before .before .before .before .before .before .before .before .before .before .before .before .before .before .before
-    .before .obey in
+    let said = after-obey c .before .before .before .before .before .before .before .before .before .said in
+    let obey = after-obey c .obey in
     let write-answer = c .before .before .write-answer in
     rw (said .given .1) (
       obey .ensures .heap,
@@ -51,27 +53,13 @@ answer-spec =
     (λ c. search needs)
     (λ c κs. tt)
     (λ c κs. c .before .before .before .before .before .before .before .before .before .before .before .before .pre .1)
-    (λ c.
-    c .before .before .before .before .before .before .before .before .before .before .before .before .before .before .before .before .before
-    .before .obey .kept .0)
-    (λ c.
-    c .before .before .before .before .before .before .before .before .before .before .before .before .before .before .before .before .before
-    .before .obey .kept .1 .0)
-    (λ c.
-    c .before .before .before .before .before .before .before .before .before .before .before .before .before .before .before .before .before
-    .before .obey .kept .1 .1 .0)
-    (λ c.
-    c .before .before .before .before .before .before .before .before .before .before .before .before .before .before .before .before .before
-    .before .obey .kept .1 .1 .1 .0)
-    (λ c.
-    c .before .before .before .before .before .before .before .before .before .before .before .before .before .before .before .before .before
-    .before .obey .kept .1 .1 .1 .1 .0)
-    (λ c.
-    c .before .before .before .before .before .before .before .before .before .before .before .before .before .before .before .before .before
-    .before .obey .kept .1 .1 .1 .1 .1 .0)
-    (λ c.
-    c .before .before .before .before .before .before .before .before .before .before .before .before .before .before .before .before .before
-    .before .obey .kept .1 .1 .1 .1 .1 .1 .0)
+    (λ c. after-obey c .obey .kept .0)
+    (λ c. after-obey c .obey .kept .1 .0)
+    (λ c. after-obey c .obey .kept .1 .1 .0)
+    (λ c. after-obey c .obey .kept .1 .1 .1 .0)
+    (λ c. after-obey c .obey .kept .1 .1 .1 .1 .0)
+    (λ c. after-obey c .obey .kept .1 .1 .1 .1 .1 .0)
+    (λ c. after-obey c .obey .kept .1 .1 .1 .1 .1 .1 .0)
     (λ c. c .before .before .write-answer .kept .0)
     returns
     (λ c. c .before .before .write-answer2 .kept .0)

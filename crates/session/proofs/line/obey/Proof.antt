@@ -6,10 +6,13 @@ use Rattle.laws.specs.Calls.Asked.{never-fresh, obeyed-line, obeyed-refused, no
 use Rattle.session.proofs.line.obey.Statement.{statement}
 use Rattle.session.proofs.line.obey.Tie as tie
 
+-- where the call has returned that may write the tables
+abbrev after-step : tie.After-slice-known14 → tie.After-step
+after-step c = c .before .before .before .before .before .before .before .before .before .before .before .before .before .before
+
 step-requires : tie.Need-step-requires
 step-requires c κs =
     let entry = c .before .before .before .before .before .before .before .before .before .before .before .before .before .before .before in
-    let if1 = c .before .before .before .before .before .before .before .if1 in
     outer-ready (entry .pre) (omega arith)
 
 returns-2 : tie.Need-returns-2
@@ -34,15 +37,13 @@ obey-spec =
     tie.close
     (tie.spec
     step-requires
-    (λ c. c .before .before .before .before .before .before .before .before .before .before .before .before .before .before .step .kept .0)
-    (λ c. c .before .before .before .before .before .before .before .before .before .before .before .before .before .before .step .kept .1 .0)
-    (λ c. c .before .before .before .before .before .before .before .before .before .before .before .before .before .before .step .kept .1 .1 .0)
-    (λ c. c .before .before .before .before .before .before .before .before .before .before .before .before .before .before .step .kept .1 .1 .1 .0)
-    (λ c. c .before .before .before .before .before .before .before .before .before .before .before .before .before .before .step .kept .1 .1 .1 .1 .0)
-    (λ c. c .before .before .before .before .before .before .before .before .before .before .before .before .before .before .step .kept .1 .1 .1 .1 .1 .0)
-    (λ c.
-    c .before .before .before .before .before .before .before .before .before .before .before .before .before .before .step .kept .1
-    .1 .1 .1 .1 .1 .0)
+    (λ c. after-step c .step .kept .0)
+    (λ c. after-step c .step .kept .1 .0)
+    (λ c. after-step c .step .kept .1 .1 .0)
+    (λ c. after-step c .step .kept .1 .1 .1 .0)
+    (λ c. after-step c .step .kept .1 .1 .1 .1 .0)
+    (λ c. after-step c .step .kept .1 .1 .1 .1 .1 .0)
+    (λ c. after-step c .step .kept .1 .1 .1 .1 .1 .1 .0)
     (λ c. c .before .before .before .before .before .before .before .before .before .before .before .before .before .before .step .ensures)
     (λ c κs. tt)
     (λ c κs. tt)

@@ -6,6 +6,10 @@ use borrow.Author.Needs.{needs}
 use Rattle.session.proofs.taking.take_byte.Statement.{statement}
 use Rattle.session.proofs.taking.take_byte.Tie as tie
 
+-- where the call has returned that may write the tables
+abbrev after-answer : tie.After-start → tie.After-answer
+after-answer c = c .before .before .before .before .before .before .before .before .before .before .before .before .before .before .before .before .before
+
 returns : tie.Need-returns
 returns c =
     let feed = c .before .before .before .feed in
@@ -14,15 +18,9 @@ returns c =
 
 returns-2 : tie.Need-returns-2
 returns-2 c =
-    let feed =
-    c .before .before .before .before .before .before .before .before .before .before .before .before .before .before .before .before .before
-    .before .before .before .before .before .before .before .before .before .before .before .before .feed in
-    let said =
-    c .before .before .before .before .before .before .before .before .before .before .before .before .before .before .before .before .before
-    .before .before .before .before .before .before .before .before .before .before .said in
-    let answer =
-    c .before .before .before .before .before .before .before .before .before .before .before .before .before .before .before .before .before
-    .answer in
+    let feed = after-answer c .before .before .before .before .before .before .before .before .before .before .before .before .feed in
+    let said = after-answer c .before .before .before .before .before .before .before .before .before .before .said in
+    let answer = after-answer c .answer in
     let start = c .start in
     took-line _ _ _ _ _ _ _ _ _ (sym (feed .ensures) ∙ said .given .1)
     (answer .ensures .0) (start .ensures) (omega arith) (answer .ensures .1 .0) (omega (arith, answer .ensures .1 .1))
@@ -39,28 +37,12 @@ take-byte-spec =
     .before .before .before .pre)
     (λ c κs. tt)
     returns
-    (λ c.
-    c .before .before .before .before .before .before .before .before .before .before .before .before .before .before .before .before .before
-    .answer .kept .0)
-    (λ c.
-    c .before .before .before .before .before .before .before .before .before .before .before .before .before .before .before .before .before
-    .answer .kept .1 .0)
-    (λ c.
-    c .before .before .before .before .before .before .before .before .before .before .before .before .before .before .before .before .before
-    .answer .kept .1 .1 .0)
-    (λ c.
-    c .before .before .before .before .before .before .before .before .before .before .before .before .before .before .before .before .before
-    .answer .kept .1 .1 .1 .0)
-    (λ c.
-    c .before .before .before .before .before .before .before .before .before .before .before .before .before .before .before .before .before
-    .answer .kept .1 .1 .1 .1 .0)
-    (λ c.
-    c .before .before .before .before .before .before .before .before .before .before .before .before .before .before .before .before .before
-    .answer .kept .1 .1 .1 .1 .1 .0)
-    (λ c.
-    c .before .before .before .before .before .before .before .before .before .before .before .before .before .before .before .before .before
-    .answer .kept .1 .1 .1 .1 .1 .1 .0)
-    (λ c.
-    c .before .before .before .before .before .before .before .before .before .before .before .before .before .before .before .before .before
-    .answer .kept .1 .1 .1 .1 .1 .1 .1 .1 .1 .0)
+    (λ c. after-answer c .answer .kept .0)
+    (λ c. after-answer c .answer .kept .1 .0)
+    (λ c. after-answer c .answer .kept .1 .1 .0)
+    (λ c. after-answer c .answer .kept .1 .1 .1 .0)
+    (λ c. after-answer c .answer .kept .1 .1 .1 .1 .0)
+    (λ c. after-answer c .answer .kept .1 .1 .1 .1 .1 .0)
+    (λ c. after-answer c .answer .kept .1 .1 .1 .1 .1 .1 .0)
+    (λ c. after-answer c .answer .kept .1 .1 .1 .1 .1 .1 .1 .1 .1 .0)
     returns-2)
