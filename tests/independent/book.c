@@ -1,4 +1,5 @@
-/* "Counter book: twelve marked examples", and the answers that stand there. */
+/* "Counter book: twelve marked examples", and the answers that stand there. K13 to K15 are those of Q-2 in document 02, whose
+   answers follow from its rule. */
 #include "suites.h"
 
 #include "pair.h"
@@ -6,7 +7,7 @@
 /* A step that isn't a call: table, entry and the value that stands there now. */
 enum { FACT = OPS };
 
-enum { STEPS = 14 };
+enum { STEPS = 17 };
 
 /* A call, the numbers it gets and the answer wanted. A list ends with a step that is all zeros. */
 struct step {
@@ -25,6 +26,12 @@ struct example {
 #define K7_FIRST                                                                                              \
     K6_FIRST, { START, { 0 }, { 0 } }, { COPY, { 1, 0 }, { 0 } }, { FINISH, { 0 }, { 0 } },                   \
         { FACT, { T_COUNT, 0, 1 }, { 0 } }, { FACT, { T_FLAGS, 0, 3 }, { 0 } }
+
+/* Fin 0 in root 0 holds fin 1, which is finalised, in slot 0, and that is fin 1's only reference. */
+#define K13_FIRST                                                                                             \
+    { NEW, { 0, 1, 1 }, { 0 } }, { NEW, { 1, 1, 1 }, { .cell = 1 } }, { CLEAR, { 1 }, { .queued = 1 } },      \
+        { START, { 1 }, { 0 } }, { STORE, { 0, 0, 1 }, { 0 } }, { FINISH, { 0 }, { 0 } },                     \
+        { FACT, { T_COUNT, 1, 1 }, { 0 } }, { FACT, { T_FLAGS, 1, 3 }, { 0 } }
 
 static const struct example examples[] = {
     { "K1", 1,
@@ -109,6 +116,36 @@ static const struct example examples[] = {
     { "K12", 256,
       { { FINISH, { 0 }, { .refused = IDLE } },
         { START, { 64 }, { .refused = NUMBER } } } },
+    /* "a case where a finalised cell hangs from a queued one and keeps flags 3": it is finalised once */
+    { "K13", 256,
+      { K13_FIRST,
+        { CLEAR, { 0 }, { .queued = 1 } },
+        { COLLECT, { 0 }, { 0 } },
+        { FACT, { T_FLAGS, 1, 3 }, { 0 } },
+        { FACT, { T_QUEUE, 0, 0 + 1 }, { 0 } },
+        { FACT, { T_CONTROL, LENGTH, 1 }, { 0 } },
+        { START, { 0 }, { 0 } },
+        { FINISH, { 0 }, { .freed = 2 } },
+        { START, { 0 }, { .refused = NONE } } } },
+    /* with an empty queue it is rescued, and finalised again */
+    { "K14", 256,
+      { K13_FIRST,
+        { COLLECT, { 0 }, { 0 } },
+        { FACT, { T_FLAGS, 1, 1 }, { 0 } },
+        { CLEAR, { 0 }, { .queued = 1 } },
+        { START, { 0 }, { 0 } },
+        { FINISH, { 0 }, { .freed = 1, .queued = 1 } },
+        { START, { 0 }, { 0 } },
+        { FINISH, { 0 }, { .freed = 1 } } } },
+    /* what COLLECT itself queues was not in the queue "when COLLECT began" */
+    { "K15", 256,
+      { K13_FIRST,
+        { STORE, { 0, 1, 0 }, { 0 } },
+        { CLEAR, { 0 }, { 0 } },
+        { COLLECT, { 0 }, { .queued = 1 } },
+        { FACT, { T_FLAGS, 1, 1 }, { 0 } },
+        { FACT, { T_QUEUE, 0, 0 + 1 }, { 0 } },
+        { FACT, { T_CONTROL, LENGTH, 1 }, { 0 } } } },
 };
 
 static bool same(struct answer a, struct answer b)

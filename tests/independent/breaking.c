@@ -186,6 +186,7 @@ const struct damage damages[] = {
     { "4: entry past the length", PUT(PAST_QUEUE, WAITING, 0) },
     { "4: entry past the length, counted", PUT(PAST_QUEUE, WAITING, 1) },
     { "4: queued cell again past the length", PUT(PAST_QUEUE, QUEUED, 0) },
+    { "4: finalised cell past the length", PUT(PAST_QUEUE, RUN_ONCE, 0) },
     { "5: running root 64", SET_RUNNING(QUEUE_SOME, 65) },
     { "5: running root 65534", SET_RUNNING(QUEUE_SOME, 65535) },
     { "5: running root 0 with an empty queue", SET_RUNNING(QUEUE_NONE, 1) },

@@ -3,6 +3,8 @@
 #include "coverage.h"
 #include "random.h"
 
+#include <string.h>
+
 static const unsigned weights[MOODS][OPS] = {
     [FILLING] = { [NEW] = 38, [CLEAR] = 8, [COPY] = 8, [LOAD] = 6, [STORE] = 34, [COLLECT] = 2, [START] = 2, [FINISH] = 2 },
     [CUTTING] = { [NEW] = 12, [CLEAR] = 25, [COPY] = 15, [LOAD] = 16, [STORE] = 16, [COLLECT] = 6, [START] = 5, [FINISH] = 5 },
@@ -93,29 +95,16 @@ static void choose_arguments(struct wish *wish, const struct heap *heap)
     }
 }
 
-/* A finalizer may write the running root as well: FINISH has to empty it, "whatever it holds by now". */
+/* Where a call has the root that it reads, if it reads one. */
+static const size_t source_at[OPS] = { [COPY] = 1, [LOAD] = 1, [STORE] = 2 };
+
+/* A finalizer may put its cell in another place, which then keeps it. It may write the running root as well: FINISH has to
+   empty it, "whatever it holds by now". */
 static void aim_at_running_root(struct wish *wish, const struct heap *heap)
 {
+    size_t at = chance(50) ? 0 : source_at[wish->op];
     if (heap->control.at[RUNNING] != 0)
-        wish->arg[0] = heap->control.at[RUNNING] - 1;
-}
-
-static bool rescue_due(const struct heap *heap)
-{
-    for (size_t root = 0; root < ROOTS; root++) {
-        uint16_t ref = heap->roots.at[root];
-        if (ref != 0 && heap->flags.at[ref - 1] == (FINALIZER | FINALISED))
-            return true;
-    }
-    return false;
-}
-
-static void note_collect(const struct heap *heap)
-{
-    if (heap->control.at[RUNNING] != 0)
-        coverage_landmark(COLLECT_WHILE_RUNNING);
-    if (rescue_due(heap))
-        coverage_landmark(COLLECT_RESCUES);
+        wish->arg[at] = heap->control.at[RUNNING] - 1;
 }
 
 static void note_finish(const struct heap *heap)
@@ -132,8 +121,6 @@ static void note_finish(const struct heap *heap)
 
 static void note_situation(enum op op, const struct heap *heap)
 {
-    if (op == COLLECT)
-        note_collect(heap);
     if (op == FINISH)
         note_finish(heap);
     if (heap->control.at[LENGTH] == heap->kind.len)
@@ -145,18 +132,51 @@ struct wish knowing_wish(const struct heap *heap, enum mood mood)
     enum op op = some_op(mood);
     struct wish wish = { .op = chance(80) ? sensible(op, heap) : op };
     choose_arguments(&wish, heap);
-    if (chance(15))
+    if (chance(30))
         aim_at_running_root(&wish, heap);
     if (chance(3))
         wish.arg[below(3)] = wild_number();
     return wish;
 }
 
+/* Whether a cell that was finalised before the call has these flags after it. */
+static bool finalised_became(const uint16_t *flags_before, const struct heap *heap, uint16_t flags)
+{
+    for (size_t cell = 0; cell < heap->kind.len; cell++)
+        if (flags_before[cell] == (FINALIZER | FINALISED) && heap->flags.at[cell] == flags)
+            return true;
+    return false;
+}
+
+/* Q-2: "if the queue held anything when COLLECT began, no flags 3 become 1 in that COLLECT." If it held nothing, all of them
+   do: a finalised cell that COLLECT doesn't free was marked. */
+void knowing_collect(struct pair *pair)
+{
+    const struct heap *heap = &pair->ours;
+    bool running = heap->control.at[RUNNING] != 0, held_anything = heap->control.at[LENGTH] != 0;
+    uint16_t before[CELLS_MAX];
+    memcpy(before, heap->flags.at, heap->flags.len * sizeof *before);
+    bool queues = pair_call(pair, COLLECT, 0, 0, 0).queued != 0;
+    bool rescues = finalised_became(before, heap, FINALIZER), postpones = finalised_became(before, heap, FINALIZER | FINALISED);
+    demand(!(held_anything ? rescues : postpones), "the queue decides whether COLLECT rescues");
+    if (running)
+        coverage_landmark(COLLECT_WHILE_RUNNING);
+    if (rescues)
+        coverage_landmark(COLLECT_RESCUES);
+    if (rescues && queues)
+        coverage_landmark(COLLECT_RESCUES_AND_QUEUES);
+    if (postpones)
+        coverage_landmark(COLLECT_POSTPONES_RESCUE);
+}
+
 void knowing_call(struct pair *pair, enum mood mood)
 {
     struct wish wish = knowing_wish(&pair->ours, mood);
     note_situation(wish.op, &pair->ours);
-    pair_call(pair, wish.op, wish.arg[0], wish.arg[1], wish.arg[2]);
+    if (wish.op == COLLECT)
+        knowing_collect(pair);
+    else
+        pair_call(pair, wish.op, wish.arg[0], wish.arg[1], wish.arg[2]);
 }
 
 static size_t blind_number(void)

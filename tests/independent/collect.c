@@ -1,4 +1,5 @@
-/* "Collecting". Marking goes in rounds, each of which marks what the cells of the round before hold. */
+/* "Collecting", with the mended rule of Q-2 in document 02. Marking goes in rounds, each of which marks what the cells of
+   the round before hold. */
 #include "parts.h"
 
 /* Cells are listed in the order in which they were marked; the first `traced` of them have had their slots marked. */
@@ -114,15 +115,19 @@ static void rescue(struct heap *heap, const struct marks *marks)
             heap->flags.at[cell] = FINALIZER;
 }
 
-/* "Mark these and what they reach": what stood in the queue before is marked already. */
+/* "Mark these and what they reach": what stood in the queue before is marked already.
+   Q-2: "if the queue held anything when COLLECT began, no flags 3 become 1 in that COLLECT." What joins the queue in this
+   call joins it later, and does not count. */
 void collect(struct run *run)
 {
     struct heap *heap = run->heap;
     struct marks marks = { 0 };
+    bool queue_was_empty = heap->control.at[LENGTH] == 0;
     mark_reached(&marks, heap);
     enqueue_unmarked(run, &marks);
     mark_from(&marks, heap, &heap->queue);
     sweep_references(heap, &marks);
     sweep_cells(heap, &marks);
-    rescue(heap, &marks);
+    if (queue_was_empty)
+        rescue(heap, &marks);
 }

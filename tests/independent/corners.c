@@ -28,6 +28,19 @@ static void finish_corner(const struct step *steps)
     pair_free(&pair);
 }
 
+/* Calls on tables that are made directly, and are sound. */
+static void made_corner(const char *part, size_t cells, void (*make)(struct heap *), const struct step *steps)
+{
+    pair_sequence(part);
+    struct pair pair = pair_of(cells);
+    make(&pair.ours);
+    pair_share(&pair);
+    demand(pair_call(&pair, START, ROOTS, 0, 0).refused == NUMBER, "the tables made are sound");
+    play(&pair, steps);
+    pair_free(&pair);
+}
+
+/* COPY of a root to itself raises the largest count once more before it falls. */
 static const struct step with_largest[] = {
     { COPY, { 0, 0 } }, { COPY, { 63, 1 } }, { LOAD, { 5, 5, 0 } }, { STORE, { 5, 3, 9 } }, { COLLECT, { 0 } }, { CLEAR, { 60 } },
     { START, { 60 } }, { COLLECT, { 0 } }, { STORE, { 60, 0, 61 } }, { FINISH, { 0 } }, { COLLECT, { 0 } }, { DRAIN, { 0 } },
@@ -56,21 +69,83 @@ static void make_largest(struct heap *heap)
     heap->count.at[0] = ROOTS + SLOTS * n + 1;
 }
 
-/* COPY of a root to itself raises that count once more before it falls. */
-static void largest_count(void)
+/* "no flags 3 become 1 in that COLLECT". The finalised cells hang from the one that waits and then runs. */
+static const struct step hang_from_queue[] = {
+    { CLEAR, { 0 } }, { COLLECT, { 0 } }, { START, { 63 } }, { COLLECT, { 0 } }, { FINISH, { 0 } }, { COLLECT, { 0 } },
+    { END, { 0 } },
+};
+
+/* A root holds them as well; the running root is emptied, and after FINISH so is the queue. */
+static const struct step hang_from_root[] = {
+    { LOAD, { 1, 0, 7 } }, { CLEAR, { 0 } }, { COLLECT, { 0 } }, { START, { 63 } }, { COLLECT, { 0 } }, { CLEAR, { 63 } },
+    { COLLECT, { 0 } }, { FINISH, { 0 } }, { COLLECT, { 0 } }, { CLEAR, { 1 } }, { COLLECT, { 0 } }, { DRAIN, { 0 } },
+    { END, { 0 } },
+};
+
+/* "if the queue held anything when COLLECT began": it held nothing, and here COLLECT itself puts their holder in it. */
+static const struct step hang_from_ring[] = {
+    { STORE, { 0, 0, 0 } }, { CLEAR, { 0 } }, { COLLECT, { 0 } }, { COLLECT, { 0 } }, { DRAIN, { 0 } }, { COLLECT, { 0 } },
+    { DRAIN, { 0 } }, { END, { 0 } },
+};
+
+/* Their holder is in a root, and they are rescued before it joins the queue. */
+static const struct step hang_from_used[] = {
+    { COLLECT, { 0 } }, { CLEAR, { 0 } }, { COLLECT, { 0 } }, { DRAIN, { 0 } }, { END, { 0 } },
+};
+
+static const struct step *const hangings[] = { hang_from_queue, hang_from_root, hang_from_ring, hang_from_used };
+
+/* Cell 0, with a finalizer and in root 0, holds a chain of finalised cells. */
+static void make_finalised_chain(struct heap *heap)
 {
-    pair_sequence("the largest count");
-    struct pair pair = pair_of(CELLS_MAX);
-    make_largest(&pair.ours);
-    pair_share(&pair);
-    demand(pair_call(&pair, COPY, 0, 0, 0).refused == DONE, "the heap with the largest count is sound");
-    play(&pair, with_largest);
-    pair_free(&pair);
+    fill(&heap->kind, OBJECT);
+    fill(&heap->flags, FINALIZER | FINALISED);
+    fill(&heap->count, 1);
+    heap->flags.at[0] = FINALIZER;
+    heap->roots.at[0] = 1;
+    for (size_t cell = 1; cell < heap->kind.len; cell++)
+        heap->slots.at[SLOTS * cell - 1] = cell + 1;
+}
+
+static void finalised_chain(size_t cells)
+{
+    for (size_t i = 0; i < sizeof hangings / sizeof *hangings; i++)
+        made_corner("finalised cells in a chain", cells, make_finalised_chain, hangings[i]);
+}
+
+/* All cells but the last wait, and the last one, which is finalised, hangs from cell 0. */
+static void make_waiting(struct heap *heap)
+{
+    size_t last = heap->kind.len - 1;
+    fill(&heap->kind, OBJECT);
+    fill(&heap->flags, FINALIZER);
+    fill(&heap->count, 1);
+    heap->flags.at[last] |= FINALISED;
+    heap->slots.at[0] = last + 1;
+    for (size_t i = 0; i < last; i++)
+        heap->queue.at[i] = i + 1;
+    heap->control.at[LENGTH] = last;
+}
+
+/* However long the queue is, it "held anything". */
+static const size_t queue_lengths[] = { 1, 2, 255, 256, 257, 512, 768, 1023 };
+
+static const struct step with_queue[] = {
+    { COLLECT, { 0 } }, { START, { 63 } }, { COLLECT, { 0 } }, { FINISH, { 0 } }, { END, { 0 } },
+};
+
+static void finalised_from_queue(void)
+{
+    for (size_t i = 0; i < sizeof queue_lengths / sizeof *queue_lengths; i++)
+        made_corner("a finalised cell and a long queue", queue_lengths[i] + 1, make_waiting, with_queue);
 }
 
 void corners(void)
 {
     for (size_t i = 0; i < sizeof finishes / sizeof *finishes; i++)
         finish_corner(finishes[i]);
-    largest_count();
+    made_corner("the largest count", CELLS_MAX, make_largest, with_largest);
+    finalised_chain(2);
+    finalised_chain(CELLS_MAX);
+    finalised_from_queue();
 }

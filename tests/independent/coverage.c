@@ -6,7 +6,9 @@ const char *const op_names[OPS] = { "FRESH", "NEW", "CLEAR", "COPY", "LOAD", "ST
 
 static const char *const landmark_names[LANDMARKS] = {
     [COLLECT_WHILE_RUNNING] = "COLLECT while a finalizer runs",
-    [COLLECT_RESCUES] = "COLLECT with a finalised cell in a root",
+    [COLLECT_RESCUES] = "COLLECT that rescues a finalised cell",
+    [COLLECT_RESCUES_AND_QUEUES] = "COLLECT that rescues a finalised cell and queues others",
+    [COLLECT_POSTPONES_RESCUE] = "COLLECT that leaves a finalised cell so, because of the queue",
     [FINISH_WITH_OTHER_IN_ROOT] = "FINISH with another cell in the running root",
     [FINISH_WITH_EMPTY_ROOT] = "FINISH with an empty running root",
     [FINISH_SURVIVED] = "FINISH on a cell that something else holds",
@@ -51,6 +53,12 @@ static const unsigned free_at_least[OPS] = {
 };
 static const unsigned queue_at_least[OPS] = {
     [CLEAR] = 33, [COPY] = 1, [LOAD] = 1, [STORE] = 1, [COLLECT] = 257, [FINISH] = 2,
+};
+
+/* A landmark has to be met more often than so. Those of Q-2 count random calls alone, and a slip in any of them should
+   show more than once. */
+static const unsigned long more_often_than[LANDMARKS] = {
+    [COLLECT_RESCUES] = 100, [COLLECT_RESCUES_AND_QUEUES] = 100, [COLLECT_POSTPONES_RESCUE] = 100,
 };
 
 static void raise_to(unsigned *most, unsigned number)
@@ -114,7 +122,7 @@ static bool report_call(enum op op)
 static bool report_landmark(enum landmark landmark)
 {
     printf("  %s: %lu\n", landmark_names[landmark], landmarks[landmark]);
-    return !lacking(landmarks[landmark] == 0, landmark_names[landmark], "");
+    return !lacking(landmarks[landmark] <= more_often_than[landmark], landmark_names[landmark], "often enough");
 }
 
 bool coverage_report(void)

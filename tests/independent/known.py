@@ -1,4 +1,4 @@
-"""Inputs of the program with the outputs that document 01 gives them, known without any program."""
+"""Inputs of the program with the outputs that document 01 and Q-2 in document 02 give them, known without any program."""
 
 HEADER = b"op,refused,freed,queued,cell\r\n"
 BAD = b"0,11,0,0,0\r\n"  # the answer to a line that is no call
@@ -13,7 +13,8 @@ def text(lines):
 EXAMPLE = text("1,0,1,0 1,1,2,0 5,0,0,1 2,1,0,0 2,0,0,0")
 EXAMPLE_OUTPUT = HEADER + text("1,0,0,0,0 1,0,0,0,1 5,0,0,0,0 2,0,0,0,0 2,0,2,0,0")
 
-# The counter book's examples on 256 cells, and what shows that each left its heap as it should.
+# The counter book's examples on 256 cells, and what shows that each left its heap as it should. K13 to K15 are those of Q-2: what shows a
+# cell's flags is whether the cell is queued or freed where its last reference goes.
 BOOK = {
     "K3": ("1,0,1,0    3,0,0,0    2,0,0,0",
            "1,0,0,0,0  3,0,0,0,0  2,0,1,0,0"),
@@ -35,6 +36,12 @@ BOOK = {
             "1,0,0,0,0  1,0,0,0,1  1,0,0,0,2  5,0,0,0,0  5,0,0,0,0  2,0,0,0,0  2,0,0,0,0  2,0,1,1,0  6,0,0,0,0  7,0,0,0,0  8,0,2,0,0"),
     "K12": ("8,0,0,0     7,64,0,0",
             "8,10,0,0,0  7,3,0,0,0"),
+    "K13": ("1,0,1,1    1,1,1,1    2,1,0,0    7,1,0,0    5,0,0,1    8,0,0,0    2,0,0,0    6,0,0,0    7,0,0,0    8,0,0,0    7,0,0,0    1,0,1,0",
+            "1,0,0,0,0  1,0,0,0,1  2,0,0,1,0  7,0,0,0,0  5,0,0,0,0  8,0,0,0,0  2,0,0,1,0  6,0,0,0,0  7,0,0,0,0  8,0,2,0,0  7,9,0,0,0  1,0,0,0,0"),
+    "K14": ("1,0,1,1    1,1,1,1    2,1,0,0    7,1,0,0    5,0,0,1    8,0,0,0    6,0,0,0    2,0,0,0    7,0,0,0    8,0,0,0    7,0,0,0    8,0,0,0",
+            "1,0,0,0,0  1,0,0,0,1  2,0,0,1,0  7,0,0,0,0  5,0,0,0,0  8,0,0,0,0  6,0,0,0,0  2,0,0,1,0  7,0,0,0,0  8,0,1,1,0  7,0,0,0,0  8,0,1,0,0"),
+    "K15": ("1,0,1,1    1,1,1,1    2,1,0,0    7,1,0,0    5,0,0,1    8,0,0,0    5,0,1,0    2,0,0,0    6,0,0,0    7,0,0,0    8,0,0,0    6,0,0,0    7,0,0,0    8,0,0,0",
+            "1,0,0,0,0  1,0,0,0,1  2,0,0,1,0  7,0,0,0,0  5,0,0,0,0  8,0,0,0,0  5,0,0,0,0  2,0,0,0,0  6,0,0,1,0  7,0,0,0,0  8,0,0,0,0  6,0,1,1,0  7,0,0,0,0  8,0,1,0,0"),
 }
 
 # What each call does with its arguments, and each number's limits.
@@ -63,6 +70,9 @@ CALLS = [
     # START and FINISH: NONE, TAKEN, BUSY, IDLE; COLLECT while a finalizer runs
     ("7,4,0,0    1,4,1,1    2,4,0,0    1,9,2,0    7,9,0,0    7,4,0,0    7,4,0,0    7,5,0,0    6,0,0,0    8,0,0,0    8,0,0,0     7,65535,0,0",
      "7,9,0,0,0  1,0,0,0,0  2,0,0,1,0  1,0,0,0,1  7,6,0,0,0  7,0,0,0,0  7,6,0,0,0  7,8,0,0,0  6,0,0,0,0  8,0,1,0,0  8,10,0,0,0  7,3,0,0,0"),
+    # COLLECT while a finalizer runs rescues nothing: the cell in root 1, finalised already, is freed
+    ("1,0,1,1    2,0,0,0    7,0,0,0    3,1,0,0    8,0,0,0    1,0,1,1    2,0,0,0    7,0,0,0    6,0,0,0    2,1,0,0    8,0,0,0    7,0,0,0",
+     "1,0,0,0,0  2,0,0,1,0  7,0,0,0,0  3,0,0,0,0  8,0,0,0,0  1,0,0,0,1  2,0,0,1,0  7,0,0,0,0  6,0,0,0,0  2,0,1,0,0  8,0,1,0,0  7,9,0,0,0"),
     # several refusals at once: the lowest number
     ("1,0,2,0    1,0,4,0    1,0,1,2    4,0,0,8    5,0,8,0    4,1,1,8    7,0,0,0    7,64,0,0",
      "1,0,0,0,0  1,3,0,0,0  1,3,0,0,0  4,3,0,0,0  5,3,0,0,0  4,3,0,0,0  7,6,0,0,0  7,3,0,0,0"),

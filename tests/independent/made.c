@@ -39,28 +39,42 @@ static void shuffle(uint16_t *order, size_t n)
     }
 }
 
-/* Objects in random order, each holding the next one: a chain that no scan in cell order follows at once. */
-static void thread_objects(struct heap *heap)
+/* Objects in random order, each holding the next one: a chain that no scan in cell order follows at once. The entry given
+   holds the first; the one handed back is the last one's. */
+static uint16_t *thread_objects(struct heap *heap, uint16_t *entry)
 {
-    uint16_t order[CELLS_MAX] = { 0 }, before = 0;
+    uint16_t order[CELLS_MAX] = { 0 };
     shuffle(order, heap->kind.len);
     for (size_t i = 0; i < heap->kind.len; i++) {
         if (heap->kind.at[order[i]] != OBJECT)
             continue;
-        *(before == 0 ? &heap->roots.at[0] : &heap->slots.at[SLOTS * before - 1]) = order[i] + 1;
-        before = order[i] + 1;
+        *entry = order[i] + 1;
+        entry = &heap->slots.at[SLOTS * order[i] + SLOTS - 1];
     }
+    return entry;
+}
+
+static void sow_slots(struct heap *heap, unsigned percent)
+{
+    for (size_t cell = 0; cell < heap->kind.len; cell++)
+        if (heap->kind.at[cell] == OBJECT)
+            sow(heap, &heap->slots.at[SLOTS * cell], SLOTS, percent);
 }
 
 static void make_references(struct heap *heap)
 {
     unsigned percent = densities[below(4)];
     sow(heap, heap->roots.at, ROOTS, heap->kind.len < 10 ? 1 + percent / 15 : percent);
-    for (size_t cell = 0; cell < heap->kind.len; cell++)
-        if (heap->kind.at[cell] == OBJECT)
-            sow(heap, &heap->slots.at[SLOTS * cell], SLOTS, percent);
+    sow_slots(heap, percent);
     if (chance(30))
-        thread_objects(heap);
+        thread_objects(heap, &heap->roots.at[0]);
+}
+
+static void make_ring(struct heap *heap)
+{
+    uint16_t first = 0;
+    sow_slots(heap, densities[below(4)]);
+    *thread_objects(heap, &first) = first;
 }
 
 /* A share of the objects with flags 1, from a random cell on, in falling or rising order. */
@@ -107,11 +121,23 @@ static bool drop_unreferenced(struct heap *heap)
     return dropped;
 }
 
+static void drop_all_unreferenced(struct heap *heap)
+{
+    while (drop_unreferenced(heap))
+        ;
+}
+
 void make_sound(struct heap *heap)
 {
     make_cells(heap);
     make_references(heap);
     make_queue(heap);
-    while (drop_unreferenced(heap))
-        ;
+    drop_all_unreferenced(heap);
+}
+
+void make_loose(struct heap *heap)
+{
+    make_cells(heap);
+    make_ring(heap);
+    drop_all_unreferenced(heap);
 }

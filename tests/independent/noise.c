@@ -12,17 +12,17 @@ static void change_an_entry(struct heap *heap)
     table->at[below(table->len)] = chance(80) ? below(5) : below(65536);
 }
 
-static void sound_tables(size_t cells, size_t calls)
+static void sound_tables(size_t cells, void (*make)(struct heap *))
 {
     pair_sequence("sound tables");
     struct pair pair = pair_of(cells);
     enum mood mood = below(MOODS);
-    make_sound(&pair.ours);
+    make(&pair.ours);
     pair_share(&pair);
     demand(pair_call(&pair, CLEAR, ROOTS, 0, 0).refused == NUMBER, "the tables drawn are sound");
     if (chance(50))
-        pair_call(&pair, COLLECT, 0, 0, 0);
-    for (size_t i = 0; i < calls; i++)
+        knowing_collect(&pair);
+    for (int i = 0; i < 12; i++)
         knowing_call(&pair, mood);
     pair_free(&pair);
 }
@@ -79,7 +79,9 @@ void noise(void)
 {
     for (size_t p = 0; p < sizeof plan / sizeof *plan; p++)
         for (size_t i = 0; i < plan[p].heaps; i++) {
-            sound_tables(plan[p].cells, 12);
+            sound_tables(plan[p].cells, make_sound);
+            if (i % 2 == 0)
+                sound_tables(plan[p].cells, make_loose);
             changed_tables(plan[p].cells);
             small_noise(1 + i % 3);
             if (i % 10 == 0)

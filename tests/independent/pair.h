@@ -35,7 +35,7 @@ void pair_share(struct pair *pair);
 /* What differs between the tables, or what is written outside them, in words; null if nothing. */
 const char *pair_difference(struct pair *pair);
 
-/* Ends the program, with a report, if what both heaps did isn't what document 01 says. */
+/* Ends the program, with a report, if what both heaps did isn't what the documents say. */
 void demand(bool holds, const char *what);
 
 struct answer pair_call(struct pair *pair, enum op op, size_t a, size_t b, size_t c);

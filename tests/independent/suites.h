@@ -2,7 +2,7 @@
 #ifndef SUITES_H
 #define SUITES_H
 
-void book(void);    /* the marked examples K1 to K12, with the answers that document 01 gives */
+void book(void);    /* the marked examples, K1 to K12 of document 01 and K13 to K15 of Q-2, with their answers */
 void corners(void); /* situations that random lists seldom meet */
 void chains(void);  /* chains and rings of every length */
 void trees(void);   /* trees with finalizers */
