@@ -222,9 +222,10 @@ static vek_answer collect(heap *h)
             wipe(h, c);
             freed++;
         }
-    for (size_t c = 0; c < n; c++)
-        if (marks[c] != UNMARKED && h->flags[c] == 3)
-            h->flags[c] = 1;
+    if (old == 0)
+        for (size_t c = 0; c < n; c++)
+            if (marks[c] != UNMARKED && h->flags[c] == 3)
+                h->flags[c] = 1;
     return (vek_answer){0, freed, all - old, 0};
 }
 

@@ -2,4 +2,5 @@
 pub mod Phases
 pub mod Append
 pub mod Live
+pub mod Left
 pub mod Swept

@@ -1,4 +1,4 @@
--- The counter book's twelve examples hold, by computation.
+-- The counter book's fifteen examples hold, by computation.
 -- Assumes nothing.
 use mathlib.Core.Path.{refl}
 use Rattle.rules.specs.Lists.{every, all, below, occ, distinct, select}

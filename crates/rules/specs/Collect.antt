@@ -1,12 +1,12 @@
--- Document 01, "Collecting": marking, queueing, two rounds of sweeping, and the rescued.
+-- Document 01, "Collecting", with Q-2 of document 02: marking, queueing, two rounds of sweeping, and the rescued.
 -- Assumes nothing: these are definitions.
 use Prim.Native.Nat.{ℕ, zero, suc, _-_}
 use mathlib.Core.List.{List, [], _∷_, _++_, map}
-use mathlib.Core.Bool.{not, _&&_}
+use mathlib.Core.Bool.{not, _&&_, cond}
 use lib.Dec.{eqb}
 use lib.ListN.{getD, replicate}
 use Rattle.rules.specs.Lists.{select}
-use Rattle.rules.specs.Heap.{Heap, cells, kindOf, flagsOf, countOf, slotsOf, entries, setCount, setFlags, wipe, enqueue}
+use Rattle.rules.specs.Heap.{Heap, cells, queued, kindOf, flagsOf, countOf, slotsOf, entries, setCount, setFlags, wipe, enqueue}
 use Rattle.rules.specs.Release.{Work, finalizable}
 use Rattle.rules.specs.Marking.{markFrom}
 
@@ -47,21 +47,22 @@ unfoldable pub wipeAll : Heap → List ℕ → Heap
 wipeAll h [] = h
 wipeAll h (c ∷ l) = wipeAll (wipe h c) l
 
--- "Each marked cell with flags 3 gets flags 1 again: it was rescued."
-unfoldable pub rescued : Heap → List ℕ → List ℕ
-rescued h m = select (λ c. eqb (flagsOf h c) 3 && eqb (getD m c 0) 1) (cells h)
+-- the tables after both rounds
+unfoldable pub swept : Heap → Heap
+swept h = wipeAll (unlinkAll (enqueueAll h (unreachedFinalizable h)) (garbage h)) (garbage h)
+
+-- "Each marked cell with flags 3 gets flags 1 again: it was rescued." Document 02, Q-2: "if the queue held anything when COLLECT began, no flags 3
+-- become 1 in that COLLECT". Document 003 says why: the queue is "(artificially) treated as a reachability root", so that a mark need not mean a rescue
+unfoldable pub rescued : Heap → List ℕ
+rescued h = cond (eqb (queued h) 0) (select (λ c. eqb (flagsOf (swept h) c) 3 && eqb (getD (keptMarks h) c 0) 1) (cells h)) []
 
 unfoldable pub rescueAll : Heap → List ℕ → Heap
 rescueAll h [] = h
 rescueAll h (c ∷ l) = rescueAll (setFlags h c 1) l
 
--- the tables after both rounds
-unfoldable pub swept : Heap → Heap
-swept h = wipeAll (unlinkAll (enqueueAll h (unreachedFinalizable h)) (garbage h)) (garbage h)
-
 unfoldable pub collect : Heap → Work
 collect h = record {
-  heap = rescueAll (swept h) (rescued (swept h) (keptMarks h));
+  heap = rescueAll (swept h) (rescued h);
   pending = [];
   freed = garbage h;
   queued = unreachedFinalizable h;

@@ -1,5 +1,5 @@
--- Document 01, "Counter book: twelve marked examples", as data: the cells of the fresh heap, each call with its answer,
--- and what the paper says of counts, flags, kinds and queue after it. The paper gives N for K1 alone; the others have room for what they make.
+-- Document 01, "Counter book: twelve marked examples", and three of Q-2 in document 02, as data: the cells of the fresh heap, each call with its
+-- answer, and what the paper says of counts, flags, kinds and queue after it. The paper gives N for K1 alone; the others have room for what they make.
 -- Assumes nothing: these are definitions.
 use Prim.Native.Nat.{ℕ, suc}
 use mathlib.Core.List.{List, [], _∷_, _++_, map}
@@ -68,6 +68,11 @@ started = fin 0 0 ∷ line (CLEAR 0) (frees 0 1) (count 0 1 ∷ []) ∷ line (ST
 abbrev rescuing : List Line
 rescuing = started ++ (then (COPY 1 0) ∷ line FINISH (frees 0 0) (count 0 1 ∷ flags 0 3 ∷ []) ∷ [])
 
+-- K13 to K15 up to FINISH: the finalizer of fin 1 stores its cell in fin 0, from which it then hangs
+abbrev stored : List Line
+stored =
+    fin 0 0 ∷ fin 1 1 ∷ line (CLEAR 1) (frees 0 1) [] ∷ then (START 1) ∷ then (STORE 0 0 1) ∷ line FINISH ok (count 1 1 ∷ flags 1 3 ∷ []) ∷ []
+
 unfoldable pub book : List Example
 book =
     -- K1
@@ -97,6 +102,14 @@ book =
     ∷ line (CLEAR 0) (frees 1 1) (kind 2 2 ∷ []) ∷ line COLLECT (frees 0 0) (kind 2 2 ∷ []) ∷ [])
     -- K12
     ∷ of4 (line FINISH (refusedBy 10) [] ∷ line (START 64) (refusedBy 3) [] ∷ [])
+    -- K13, "a finalised cell hangs from a queued one and keeps flags 3": it is finalised once
+    ∷ of4 (stored ++ (line (CLEAR 0) (frees 0 1) [] ∷ line COLLECT ok (flags 1 3 ∷ queue (0 ∷ []) ∷ []) ∷ then (START 0)
+    ∷ line FINISH (frees 2 0) [] ∷ line (START 0) (refusedBy 9) [] ∷ []))
+    -- K14, nothing is queued when COLLECT begins: the cell was rescued, and is finalised again
+    ∷ of4 (stored ++ (line COLLECT ok (flags 1 1 ∷ []) ∷ line (CLEAR 0) (frees 0 1) [] ∷ then (START 0)
+    ∷ line FINISH (frees 1 1) (queue (1 ∷ []) ∷ []) ∷ []))
+    -- K15, what COLLECT itself queues does not count: fin 0 holds itself, too
+    ∷ of4 (stored ++ (then (STORE 0 1 0) ∷ then (CLEAR 0) ∷ line COLLECT (frees 0 1) (flags 1 1 ∷ queue (0 ∷ []) ∷ []) ∷ []))
     ∷ []
 
 -- ---- the claim
@@ -122,6 +135,6 @@ follows h [] = true
 follows h (l ∷ rest) =
     sameAnswer (step h (l .call) .answer) (l .answer) && every (map (holds (step h (l .call) .heap)) (l .facts)) && follows (step h (l .call) .heap) rest
 
--- "K1 to K12 are proved over the rules themselves as a single list under one claim"
+-- "K1 to K12 are proved over the rules themselves as a single list under one claim", and K13 to K15 with them
 abbrev pub CounterBook : Type 0
 CounterBook = every (map (λ (e : Example). follows (fresh (e .cells)) (e .lines)) book) ≡ true

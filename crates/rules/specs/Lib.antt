@@ -14,5 +14,6 @@ pub mod Numbers
 pub mod Demand1
 pub mod Demand2
 pub mod Demand3
+pub mod Rescue
 pub mod Witness
 pub mod CounterBook

@@ -4,9 +4,11 @@ use Prim.Native.Nat.{ℕ, _+_, _≤_}
 use native.Mathlib.Omega.{arith}
 use mathlib.Core.List.{List, [], _++_}
 use mathlib.Core.Bool.{Bool, true, false, _&&_}
+use mathlib.Core.Logic.{_≢_}
 use mathlib.Core.Path.{_≡_, refl, sym, ap, subst, _∙_}
 use lib.Dec.{eqb}
 use lib.ListN.{length, getD, set}
+use borrow.Author.Tests.{eq-eqb, ne-eqb}
 use Rattle.rules.specs.Lists.{select}
 use Rattle.rules.specs.Heap.{Heap, tables, setFlags}
 use Rattle.rules.specs.Collect.{rescueAll}
@@ -14,7 +16,7 @@ use Rattle.laws.specs.Lists.Select.{select-only, select-next, select-new}
 use Rattle.laws.specs.Collect.Phases.{rescued-all}
 use Rattle.laws.specs.Collect.Phases as phases
 use Rattle.laws.specs.Collect.Append.{rescue-append}
-use Rattle.sweep.specs.Phases.{isRescued, only, Restored}
+use Rattle.sweep.specs.Phases.{isRescued, rescuedOf, only, Restored, Rescued}
 
 pub rescued-none : {f : List ℕ} (c : ℕ) {b : Bool} → b ≡ false → Restored f (only b c) f
 unfolding rescueAll
@@ -54,3 +56,11 @@ module _ {f f′ : List ℕ} (m : List ℕ) (c : ℕ) (inside : c ≤ length f) 
       let e : isRescued f′ m c ≡ isRescued f m c = ap (λ (x : ℕ). eqb x 3 && eqb (getD m c 0) 1) kept in
       let b₁ : Restored f′ (only (isRescued f m c) c) f″ = subst (λ (z : Bool). Restored f′ (only z c) f″) e b in
       subst (λ (l : List ℕ). Restored f l f″) (sym (select-next (isRescued f m) c)) (rescued-then (select (isRescued f m) c) (only (isRescued f m c) c) a b₁)
+
+-- none while any cells were waiting, and otherwise all
+pub rescued-waiting : (f m : List ℕ) (waiting : ℕ) → waiting ≢ 0 → Rescued waiting f m f
+unfolding rescueAll
+rescued-waiting f m waiting w = record { restored = record { heap = λ k n s t q c. rw (ne-eqb waiting 0 w) refl } }
+
+pub rescued-decided : {f m f′ : List ℕ} (waiting : ℕ) → waiting ≡ 0 → Restored f (rescuedOf f m) f′ → Rescued waiting f m f′
+rescued-decided waiting w a = record { restored = rw (eq-eqb waiting 0 w) a }

@@ -3,9 +3,11 @@
 use Prim.Native.Nat.{ℕ, zero, suc, _+_, _-_, _≤_}
 use native.Mathlib.Omega.{arith}
 use mathlib.Core.List.{List, [], _∷_, _++_, map}
+use mathlib.Core.Bool.{cond}
 use mathlib.Core.Path.{_≡_, refl, sym, ap, subst, _∙_}
 use lib.ListN.{length, getD, take, drop, replicate, length-replicate}
 use lib.Seq.{take-add, drop-at, length-take-le}
+use lib.Dec.{eqb}
 use Rattle.rules.specs.Lists.{select}
 use Rattle.rules.specs.Heap.{Heap, tables, cells, queued, entries}
 use Rattle.rules.specs.Release.{finalizable}
@@ -19,7 +21,7 @@ use Rattle.laws.specs.Sound.But.{SoundBut}
 use Rattle.laws.specs.Sound.Facts.{facts-ready, largest-count}
 use Rattle.laws.specs.Collect.Phases.{Enqueued, enqueued}
 use Rattle.laws.specs.Collect.Live.{due-only, due-once, due-room, due-within, kept-length}
-use Rattle.sweep.specs.Phases.{isRescued, dueOf, garbageOf, rescuedOf, QueueRoom, Queued, Unlinked, Same, Freed, Restored, MarkedQueued, rounds, Swept, Collected}
+use Rattle.sweep.specs.Phases.{isRescued, dueOf, garbageOf, rescuedOf, QueueRoom, Queued, Unlinked, Same, Freed, Rescued, MarkedQueued, rounds, Swept, Collected}
 
 module _ {h : Heap} (s : SoundBut h []) where
   sized : (m : List ℕ) → length m ≡ cells h → Slots (h .slots) (length m)
@@ -90,33 +92,39 @@ module _ {h : Heap} (s : SoundBut h []) where
     unfolding keptMarks
     second-kept m₂ x = record { heap = joined; marked = x ∙ (λ i. markFrom (h .slots) (e i) (part i)); many = many }
 
--- ---- both rounds, and the rescued
+-- ---- both rounds
 
-pub sweep-joins : {k f n s m n₁ k′ f′ n′ s′ f″ : List ℕ} {r : ℕ} → length f′ ≡ length k′ → Unlinked s n (garbageOf k m) n₁ → Freed k f n₁ s (garbageOf k m) k′ f′ n′ s′ r
-    → Restored f′ (rescuedOf f′ m) f″ → Swept k f n s m k′ f″ n′ s′ r
-unfolding rescued
-sweep-joins {k} {f} {n} {s} {m} {n₁} {k′} {f′} {n′} {s′} {f″} e a b x = record {
-  heap = λ t q w.
-      let all : tables k′ f′ n′ s′ t q w ≡ rounds (tables k f n s t q w) (garbageOf k m) = b .heap t q w ∙ ap (λ (g : Heap). wipeAll g (garbageOf k m)) (a .heap k f t q w) in
-      x .heap k′ n′ s′ t q w ∙ ap (λ (c : ℕ). rescueAll (tables k′ f′ n′ s′ t q w) (select (isRescued f′ m) c)) e
-      ∙ ap (λ (g : Heap). rescueAll g (rescued g m)) all;
+pub rounds-join : {k f n s m n₁ k′ f′ n′ s′ : List ℕ} {r : ℕ} → Unlinked s n (garbageOf k m) n₁ → Freed k f n₁ s (garbageOf k m) k′ f′ n′ s′ r
+    → Swept k f n s m k′ f′ n′ s′ r
+rounds-join {k} {f} {m = m} a b = record {
+  heap = λ t q w. b .heap t q w ∙ ap (λ (g : Heap). wipeAll g (garbageOf k m)) (a .heap k f t q w);
   many = b .many;
 }
 
 -- ---- COLLECT
 
-module _ {h : Heap} {n₁ q₁ w₁ m : List ℕ} {r : ℕ} (a : MarkedQueued h (tables (h .kind) (h .flags) n₁ (h .slots) (h .roots) q₁ w₁) m r) where
+module _ {h : Heap} {n₁ q₁ w₁ m : List ℕ} {r : ℕ} (a : MarkedQueued h (tables (h .kind) (h .flags) n₁ (h .slots) (h .roots) q₁ w₁) m r)
+    {k′ f′ n′ s′ : List ℕ} {freed : ℕ} (b : Swept (h .kind) (h .flags) n₁ (h .slots) m k′ f′ n′ s′ freed) (size : length f′ ≡ cells h) where
   dead : garbageOf (h .kind) m ≡ garbage h
   unfolding garbage
   dead = ap (λ (x : List ℕ). garbageOf (h .kind) x) (a .marked)
 
-  pub collect-joins : {k′ f′ n′ s′ : List ℕ} {freed : ℕ} → Swept (h .kind) (h .flags) n₁ (h .slots) m k′ f′ n′ s′ freed
-      → Collected h (tables k′ f′ n′ s′ (h .roots) q₁ w₁) (answers 0 freed r 0)
-  unfolding collect swept
-  collect-joins b = record {
-    heap = b .heap (h .roots) q₁ w₁ ∙ (λ i. rescueAll (rounds (a .heap i) (dead i)) (rescued (rounds (a .heap i) (dead i)) (a .marked i)));
-    answered = let x = b .many ∙ ap length dead in λ i. answers 0 (x i) (a .many i) 0;
-  }
+  swept-is : tables k′ f′ n′ s′ (h .roots) q₁ w₁ ≡ swept h
+  unfolding swept
+  swept-is = b .heap (h .roots) q₁ w₁ ∙ (λ i. rounds (a .heap i) (dead i))
+
+  rescued-are : cond (eqb (queued h) 0) (rescuedOf f′ m) [] ≡ rescued h
+  unfolding rescued
+  rescued-are i = cond (eqb (queued h) 0) (select (isRescued (swept-is i .flags) (a .marked i)) (size i)) []
+
+  pub collect-joins : {waiting : ℕ} {f″ : List ℕ} → Rescued waiting f′ m f″ → waiting ≡ queued h
+      → Collected h (tables k′ f″ n′ s′ (h .roots) q₁ w₁) (answers 0 freed r 0)
+  unfolding collect
+  collect-joins x e =
+      let saved = ap (λ (w : ℕ). cond (eqb w 0) (rescuedOf f′ m) []) e ∙ rescued-are in record {
+        heap = x .restored .heap k′ n′ s′ (h .roots) q₁ w₁ ∙ (λ i. rescueAll (swept-is i) (saved i));
+        answered = let y = b .many ∙ ap length dead in λ i. answers 0 (y i) (a .many i) 0;
+      }
 
 -- what the sweep asks, after the queueing
 module _ {h : Heap} (s : SoundBut h []) {n₁ q₁ w₁ m : List ℕ} {r : ℕ} (a : MarkedQueued h (tables (h .kind) (h .flags) n₁ (h .slots) (h .roots) q₁ w₁) m r) where

@@ -9,7 +9,7 @@ use lib.ListN.{length, getD}
 use Rattle.rules.specs.declared.Answer.{Answer}
 use Rattle.rules.specs.Lists.{occ, select}
 use Rattle.rules.specs.Heap.{Heap, tables}
-use Rattle.rules.specs.Collect.{enqueueAll, unreachedFinalizable, keptMarks, lowerAll, unlinkAll, wipeAll, rescueAll, rescued, collect}
+use Rattle.rules.specs.Collect.{enqueueAll, unreachedFinalizable, keptMarks, lowerAll, unlinkAll, wipeAll, rescueAll, collect}
 use Rattle.rules.specs.Calls.{answers}
 use Rattle.laws.specs.Sound.But.{Fit}
 
@@ -77,6 +77,10 @@ pub record Freed (kind flags count slots l kind′ flags′ count′ slots′ : 
 pub record Restored (flags l flags′ : List ℕ) : Type 0 where
   pub heap : (k n s t q w : List ℕ) → tables k flags′ n s t q w ≡ rescueAll (tables k flags n s t q w) l
 
+-- the rescued got flags 1: none while any cells were waiting
+pub record Rescued (waiting : ℕ) (flags marks flags′ : List ℕ) : Type 0 where
+  pub restored : Restored flags (cond (eqb waiting 0) (rescuedOf flags marks) []) flags′
+
 -- ---- the parts together
 
 -- both markings, and the queueing between them, from marks that are all unmarked
@@ -89,11 +93,9 @@ pub record MarkedQueued (h after : Heap) (marks : List ℕ) (r : ℕ) : Type 0 w
 abbrev pub rounds : Heap → List ℕ → Heap
 rounds h l = wipeAll (unlinkAll h l) l
 
--- both rounds over the garbage, which was counted, and then the rescued
+-- both rounds over the garbage, which was counted
 pub record Swept (kind flags count slots marks kind′ flags′ count′ slots′ : List ℕ) (r : ℕ) : Type 0 where
-  pub heap : (t q w : List ℕ)
-      → tables kind′ flags′ count′ slots′ t q w
-      ≡ rescueAll (rounds (tables kind flags count slots t q w) (garbageOf kind marks)) (rescued (rounds (tables kind flags count slots t q w) (garbageOf kind marks)) marks)
+  pub heap : (t q w : List ℕ) → tables kind′ flags′ count′ slots′ t q w ≡ rounds (tables kind flags count slots t q w) (garbageOf kind marks)
   pub many : r ≡ length (garbageOf kind marks)
 
 -- every table is as the rules' COLLECT leaves it, and the answer counts what it freed and queued

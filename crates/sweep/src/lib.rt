@@ -51,7 +51,7 @@ fn mark_and_queue(
     queued
 }
 
-// The references of all unmarked cells come off, then all of them become free; marked cells that were finalised are rescued. Answers how many became free.
+// The references of all unmarked cells come off, then all of them become free. Answers how many became free.
 fn sweep_unmarked(
     kind: &mut [u16],
     flags: &mut [u16],
@@ -66,9 +66,7 @@ fn sweep_unmarked(
         (now (kind .exit)) (now (flags .exit)) (now (count .exit)) (now (slots .exit)) r ⌝ }
 {
     unlink_unmarked(kind, count, slots, marks);
-    let freed = wipe_unmarked(kind, flags, count, slots, marks);
-    rescue_marked(flags, marks);
-    freed
+    wipe_unmarked(kind, flags, count, slots, marks)
 }
 
 // COLLECT with marks that are all unmarked.
@@ -87,8 +85,10 @@ fn mark_and_sweep(
     ensures { λ r. ⌜ Collected (tables (now (kind .entry)) (now (flags .entry)) (now (count .entry)) (now (slots .entry)) (now (roots .entry)) (now (queue .entry)) (now (control .entry)))
         (tables (now (kind .exit)) (now (flags .exit)) (now (count .exit)) (now (slots .exit)) (now (roots .entry)) (now (queue .exit)) (now (control .exit))) r ⌝ }
 {
+    let waiting = control[0];
     let queued = mark_and_queue(kind, flags, count, slots, roots, queue, control, marks);
     let freed = sweep_unmarked(kind, flags, count, slots, marks);
+    rescue_marked(flags, marks, waiting);
     Answer {
         refused: DONE,
         freed: freed,

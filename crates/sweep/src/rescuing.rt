@@ -1,11 +1,11 @@
-// Marked cells that were finalised get their finalizer back.
+// Marked cells that were finalised get their finalizer back, unless cells were waiting in the queue.
 use crate::cells::is_rescued;
 use numbers::cell::Cell;
 use numbers::cell::CellNumber;
 ghost use Prim.Native.Nat.{_<_};
 ghost use mathlib.Core.Path.{_≡_};
 ghost use lib.ListN.{length};
-ghost use Rattle.sweep.specs.Phases.{isRescued, rescuedOf, only, Restored};
+ghost use Rattle.sweep.specs.Phases.{isRescued, only, Restored, Rescued};
 
 // A cell gets flags 1 again, if it is rescued.
 fn rescue_cell(flags: &mut [u16], marks: &[u8], cell: Cell)
@@ -18,11 +18,14 @@ fn rescue_cell(flags: &mut [u16], marks: &[u8], cell: Cell)
     flags[cell.index()] = 1;
 }
 
-// All rescued cells get flags 1 again.
-pub fn rescue_marked(flags: &mut [u16], marks: &[u8])
+// All rescued cells get flags 1 again. What a waiting cell reaches is marked too, and may not have been rescued: while any waits, nothing is decided.
+pub fn rescue_marked(flags: &mut [u16], marks: &[u8], waiting: u16)
     requires { ⌜ length (now marks) ≡ length (now flags) ⌝ }
-    ensures { λ _. ⌜ Restored (now (flags .entry)) (rescuedOf (now (flags .entry)) (now (marks .entry))) (now (flags .exit)) ⌝ }
+    ensures { λ _. ⌜ Rescued waiting (now (flags .entry)) (now (marks .entry)) (now (flags .exit)) ⌝ }
 {
+    if waiting != 0 {
+        return;
+    }
     for c in 0..flags.len() {
         let CellNumber::Is(cell) = Cell::of(c, flags.len()) else {
             return;

@@ -93,6 +93,14 @@ admitted h a = go (split (fits h)) (split (sound h))
 pub ready : (h : Heap) → admission h ≡ 0 → Ready h
 ready h a = let t = admitted h a in tests-ready (t .0) (t .1)
 
+-- a call on any tables finds them ready, or is refused
+pub ready-or-refused : (h : Heap) (call : Call) → isFresh call ≡ false → Ready h ⊎ ((n : ℕ) × (step h call ≡ refuse h (suc n)))
+ready-or-refused h call f = go (admission h) refl
+  where
+    go : (n : ℕ) → admission h ≡ n → Ready h ⊎ ((n : ℕ) × (step h call ≡ refuse h (suc n)))
+    go zero e = inl (ready h e)
+    go (suc n) e = inr (n, step-refused h call (suc n) (sym e ∙ not-admitted h call f (λ z. omega (arith, e, z))) (λ z. omega arith))
+
 -- on a heap that fits and is sound, the call's own conditions decide
 pub ready-refused : (h : Heap) (call : Call) → Ready h → isFresh call ≡ false → refusal h call ≡ refusalSound h call
 unfolding refusal refusalSound lowest

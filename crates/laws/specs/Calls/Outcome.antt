@@ -23,7 +23,8 @@ use Rattle.laws.specs.Sound.But.{SoundBut}
 use Rattle.laws.specs.Reach.Safe.{Kept}
 use Rattle.laws.specs.Release.Balance.{Advance}
 use Rattle.laws.specs.Collect.Live.{garbage-once}
-use Rattle.laws.specs.Collect.Swept.{collect-sound, collect-kept, collect-entries, collect-freed, freed-collect}
+use Rattle.laws.specs.Collect.Left.{collect-left}
+use Rattle.laws.specs.Collect.Swept.{collect-sound, collect-kept, collect-freed, freed-collect}
 
 -- from the tables h to the work v; `stood` are the slots after the call's own write, and so many entries left the queue
 pub record Outcome (h : Heap) (stood : List ℕ) (left : ℕ) (v : Work) : Type 0 where
@@ -71,7 +72,7 @@ outcome-collect h s = record {
   once = garbage-once h s;
   freed = collect-freed h s;
   all = freed-collect h s;
-  entered = collect-entries h s;
+  entered = collect-left h s .entriesAre;
 }
 
 -- the number of cells listed as freed is the number of those used before and free after

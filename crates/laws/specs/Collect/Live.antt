@@ -22,7 +22,7 @@ use Rattle.laws.specs.Lists.Tests.{none-of, and-join, and-left, and-righ
 use Rattle.laws.specs.Lists.Occ.{Stands, occ-append, occ-find, occ-refs, zero-refs}
 use Rattle.laws.specs.Lists.Pigeonhole.{pigeonhole, once-cons, below-cons}
 use Rattle.laws.specs.Lists.Select.{select-only, select-once, select-in}
-use Rattle.laws.specs.Marking.Marks.{Names, Held, Within, ClosedMarks}
+use Rattle.laws.specs.Marking.Marks.{Names, Held, Bits, Within, ClosedMarks}
 use Rattle.laws.specs.Marking.Closure.{closure-length, closure-keeps, closure-lists, closure-settled, closure-least}
 use Rattle.laws.specs.Sound.But.{SoundBut}
 use Rattle.laws.specs.Release.Decref.{finalizable-kind, finalizable-flags}
@@ -70,6 +70,10 @@ module _ (h : Heap) (s : SoundBut h []) where
   kept-settled : ClosedMarks (h .slots) (keptMarks h)
   unfolding keptMarks
   kept-settled = closure-settled (h .slots) (reachedMarks h) (map suc (unreachedFinalizable h)) (rw (reached-length h s) (slots-within h s)) (reached-settled h s .bits)
+
+  -- every mark is 0 or 1
+  pub kept-bits : Bits (keptMarks h)
+  kept-bits = kept-settled .bits
 
   pub live-reached : (c : ℕ) → Reached h c → Live h c
   unfolding keptMarks

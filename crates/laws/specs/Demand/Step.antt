@@ -5,7 +5,7 @@ use native.Mathlib.Omega.{arith}
 use mathlib.Core.List.{[], _++_, map, append-nil}
 use mathlib.Core.Bool.{true, false, not, _&&_}
 use mathlib.Core.Path.{_≡_, refl, sym, _∙_, ap}
-use mathlib.Core.Logic.{_≢_, _⊎_, inl, inr, ⊎-elim}
+use mathlib.Core.Logic.{_⊎_, inl, inr, ⊎-elim}
 use lib.ListN.{length, drop}
 use lib.Dec.{eqb}
 use borrow.Author.Tests.{not-true}
@@ -26,7 +26,7 @@ use Rattle.laws.specs.Lists.Tables.{getD-zeros}
 use Rattle.laws.specs.Sound.But.{SoundBut}
 use Rattle.laws.specs.Sound.Facts.{ready-tests, ready-facts, facts-ready}
 use Rattle.laws.specs.Reach.Safe.{Kept}
-use Rattle.laws.specs.Calls.Admission.{admission, admission-sound, not-admitted, ready, step-refused, step-done, step-fresh, fresh-ready, ready-refused}
+use Rattle.laws.specs.Calls.Admission.{admission, admission-sound, ready-or-refused, step-refused, step-done, step-fresh, fresh-ready, ready-refused}
 use Rattle.laws.specs.Calls.Asked.{asksFresh}
 use Rattle.laws.specs.Calls.Outcome.{outcome-freed}
 use Rattle.laws.specs.Calls.Done.{Performed, performed}
@@ -131,15 +131,14 @@ sound-step h r call = facts-ready (good-step h (ready-facts r) call .sound)
 pub admission-kept : (h : Heap) (q : Asked) → asksFresh q ≡ false → admission (obey h q .heap) ≡ admission h
 unfolding obey refuse
 admission-kept h LINE f = refl
-admission-kept h (asks c) f = go (admission h) refl
+admission-kept h (asks c) f =
+    ⊎-elim
+    (λ r. admitted-as (sound-step h r c) ∙ sym (admitted-as r))
+    (λ p. ap (λ (r : Result). admission (r .heap)) (p .1))
+    (ready-or-refused h c (unfold asksFresh in f))
   where
-    go : (why : ℕ) → admission h ≡ why → admission (step h c .heap) ≡ admission h
-    go zero e =
-        let t = ready-tests (sound-step h (ready h e) c) in
-        admission-sound (step h c .heap) (t .0) (t .1) ∙ sym e
-    go (suc n) e =
-        let some : admission h ≢ 0 = λ z. omega (arith, e, z) in
-        ap (λ (r : Result). admission (r .heap)) (step-refused h c (admission h) (not-admitted h c (unfold asksFresh in f) some) some)
+    admitted-as : {g : Heap} → Ready g → admission g ≡ 0
+    admitted-as {g} r = let t = ready-tests r in admission-sound g (t .0) (t .1)
 
 -- The numbers that each of the eight calls answers are true of the tables.
 pub true-numbers : (h : Heap) → Ready h → (call : Call) → isFresh call ≡ false → TrueNumbers call h (step h call .heap) (step h call .answer)

@@ -21,7 +21,8 @@ use Rattle.laws.specs.Sound.But.{SoundBut}
 use Rattle.laws.specs.Sound.Facts.{facts-ready}
 use Rattle.laws.specs.Reach.Marked.{reached?}
 use Rattle.laws.specs.Reach.Graph.{exact-ring}
-use Rattle.laws.specs.Collect.Swept.{collect-entries, collect-freed, freed-collect, idle-exact, exact-idle}
+use Rattle.laws.specs.Collect.Left.{collect-left}
+use Rattle.laws.specs.Collect.Swept.{collect-freed, freed-collect, idle-exact, exact-idle}
 use Rattle.laws.specs.Calls.Admission.{step-done, ready-refused}
 
 module _ (h : Heap) (s : SoundBut h []) where
@@ -63,7 +64,7 @@ module _ (h : Heap) (s : SoundBut h []) where
           let same : entries (collect h .heap) ≡ entries h = sym (ap (λ (g : Heap). entries g) at) ∙ q .queuesNothing in
           exact-idle h s
           (no-entries (unreachedFinalizable h)
-          (omega (arith, ap length (sym (collect-entries h s) ∙ same), length-append (entries h) (map suc (unreachedFinalizable h)), length-map (unreachedFinalizable h) suc)))
+          (omega (arith, ap length (sym (collect-left h s .entriesAre) ∙ same), length-append (entries h) (map suc (unreachedFinalizable h)), length-map (unreachedFinalizable h) suc)))
           (occ-empty (garbage h) (λ c. by-cases (decLt 0 (occ c (garbage h)))
           (λ b.
           let f = collect-freed h s c b in
@@ -81,7 +82,7 @@ module _ (h : Heap) (s : SoundBut h []) where
                 let free = ap (λ (g : Heap). kindOf g c) (sym swept-heap) ∙ f .free in
                 omega (arith, freed-collect h s c (f .used) free, ap (occ c) (i .1), occ-nil c);
             queuesNothing =
-                ap (λ (g : Heap). entries g) swept-heap ∙ collect-entries h s ∙ ap (λ (l : List ℕ). entries h ++ map suc l) (i .0) ∙ append-nil (entries h);
+                ap (λ (g : Heap). entries g) swept-heap ∙ collect-left h s .entriesAre ∙ ap (λ (l : List ℕ). entries h ++ map suc l) (i .0) ∙ append-nil (entries h);
           }
 
   pub answered-at : QuietAnswer h ↔ Exact h

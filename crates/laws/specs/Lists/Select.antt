@@ -13,10 +13,14 @@ use Rattle.laws.specs.Lists.Tests.{clash, none-of}
 use Rattle.laws.specs.Lists.Occ.{occ-nil, occ-append, occ-one, occ-other, occ-single}
 use Rattle.laws.specs.Lists.Pigeonhole.{total, length-total}
 
+-- what stands in a list that is there if a test passes
+pub cond-only : (b : Bool) (l : List ℕ) (x : ℕ) → 1 ≤ occ x (cond b l []) → (b ≡ true) × (1 ≤ occ x l)
+cond-only true l x o = (refl, o)
+cond-only false l x o = absurd (omega (arith, occ-nil x))
+
 -- how often x stands in a list of one number or none
 last-only : (b : Bool) (n x : ℕ) → 1 ≤ occ x (cond b (n ∷ []) []) → (b ≡ true) × (x ≡ n)
-last-only true n x o = (refl, occ-single x n o)
-last-only false n x o = absurd (omega (arith, occ-nil x))
+last-only b n x o = let r = cond-only b (n ∷ []) x o in (r .0, occ-single x n (r .1))
 
 last-in : (b : Bool) (n : ℕ) → b ≡ true → occ n (cond b (n ∷ []) []) ≡ 1
 last-in true n e = occ-one n n refl

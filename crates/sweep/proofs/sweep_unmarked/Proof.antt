@@ -1,6 +1,6 @@
 -- `sweep::sweep_unmarked` meets its contract. Assumes nothing.
 use mathlib.Core.Path.{sym, _∙_}
-use Rattle.sweep.proofs.Whole.{sweep-joins}
+use Rattle.sweep.proofs.Whole.{rounds-join}
 use Rattle.sweep.proofs.sweep_unmarked.Statement.{statement}
 use Rattle.sweep.proofs.sweep_unmarked.Tie as tie
 
@@ -13,52 +13,42 @@ unlink-unmarked-requires c κs =
 
 wipe-unmarked-requires : tie.Need-wipe-unmarked-requires
 wipe-unmarked-requires c κs =
-    let entry = c .before .before .before .before .before .before .before .before .before .before .before .before .before .before .before in (
+    let entry = c .before .before .before .before .before .before .before .before .before .before .before .before .before .before .before in
+    let unlink-unmarked = c .before .before .before .before .before .before .unlink-unmarked in (
       record {
         flags-size = entry .pre .0 .flags-size;
-        count-size = c .before .before .before .before .before .before .unlink-unmarked .kept .1 .0 ∙ entry .pre .0 .count-size;
+        count-size = unlink-unmarked .kept .1 .0 ∙ entry .pre .0 .count-size;
         slots-size = entry .pre .0 .slots-size;
       },
       entry .pre .1 .0,
     )
 
-rescue-marked-requires : tie.Need-rescue-marked-requires
-rescue-marked-requires c κs =
-    let entry =
-    c .before .before .before .before .before .before .before .before .before .before .before .before .before .before .before .before .before .before
-    .before .before .before .before .before .before .before in
-    entry .pre .1 .0 .0 ∙ sym (c .before .before .before .before .before .before .before .before .before .wipe-unmarked .kept .1 .0 ∙ entry .pre .0 .flags-size)
-
 same-length : tie.Need-same-length
 same-length c =
-    let wipe-unmarked = c .before .before .before .before .before .before .before .before .before .before .before .before .wipe-unmarked in
+    let wipe-unmarked = c .before .before .before .before .before .before .before .before .wipe-unmarked in
     wipe-unmarked .kept .0
 
 same-length-2 : tie.Need-same-length-2
 same-length-2 c =
-    let wipe-unmarked = c .before .before .before .before .before .before .before .before .before .before .before .before .wipe-unmarked in
-    c .before .before .rescue-marked .kept .0 ∙ wipe-unmarked .kept .1 .0
+    let wipe-unmarked = c .before .before .before .before .before .before .before .before .wipe-unmarked in
+    wipe-unmarked .kept .1 .0
 
 same-length-3 : tie.Need-same-length-3
 same-length-3 c =
-    let unlink-unmarked = c .before .before .before .before .before .before .before .before .before .before .before .before .before .before .before .before .before .before .before .unlink-unmarked in
-    let wipe-unmarked = c .before .before .before .before .before .before .before .before .before .before .before .before .wipe-unmarked in
+    let wipe-unmarked = c .before .before .before .before .before .before .before .before .wipe-unmarked in
+    let unlink-unmarked = c .before .before .before .before .before .before .before .before .before .before .before .before .before .before .before .unlink-unmarked in
     wipe-unmarked .kept .1 .1 .0 ∙ unlink-unmarked .kept .1 .0
 
 same-length-4 : tie.Need-same-length-4
 same-length-4 c =
-    let wipe-unmarked = c .before .before .before .before .before .before .before .before .before .before .before .before .wipe-unmarked in
+    let wipe-unmarked = c .before .before .before .before .before .before .before .before .wipe-unmarked in
     wipe-unmarked .kept .1 .1 .1 .0
 
 returns : tie.Need-returns
 returns c =
-    let entry =
-    c .before .before .before .before .before .before .before .before .before .before .before .before .before .before .before .before .before .before
-    .before .before .before .before .before .before .before .before .before .before in
-    let unlink-unmarked = c .before .before .before .before .before .before .before .before .before .before .before .before .before .before .before .before .before .before .before .unlink-unmarked in
-    let wipe-unmarked = c .before .before .before .before .before .before .before .before .before .before .before .before .wipe-unmarked in
-    sweep-joins (wipe-unmarked .kept .1 .0 ∙ entry .pre .0 .flags-size ∙ sym (wipe-unmarked .kept .0))
-    (unlink-unmarked .ensures) (wipe-unmarked .ensures) (c .before .before .rescue-marked .ensures)
+    let unlink-unmarked = c .before .before .before .before .before .before .before .before .before .before .before .before .before .before .before .unlink-unmarked in
+    let wipe-unmarked = c .before .before .before .before .before .before .before .before .wipe-unmarked in
+    rounds-join (unlink-unmarked .ensures) (wipe-unmarked .ensures)
 
 pub sweep-unmarked-spec : {M : Type 1} → statement M
 sweep-unmarked-spec =
@@ -66,7 +56,6 @@ sweep-unmarked-spec =
     (tie.spec
     unlink-unmarked-requires
     wipe-unmarked-requires
-    rescue-marked-requires
     same-length
     same-length-2
     same-length-3
