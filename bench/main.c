@@ -105,6 +105,14 @@ static void graph(void)
         }
 }
 
+/* Cell 0 waits for its finalizer. */
+static void queue_cell_0(void)
+{
+    heap.flags[0] = 1;
+    hold(heap.queue, 0);
+    heap.control[0] = 1;
+}
+
 /* What becomes of a call of the morning: it is made, or written as a line for the program. */
 typedef void action(int op, size_t a, size_t b, size_t c);
 
@@ -157,6 +165,8 @@ int main(int argc, char **argv)
         chain(0), a = measured(6, 0, 0, 0);
     } else if (!strcmp(name, "collect-graph")) {
         graph(), a = measured(6, 0, 0, 0);
+    } else if (!strcmp(name, "collect-waiting")) {
+        graph(), queue_cell_0(), a = measured(6, 0, 0, 0);
     } else if (!strcmp(name, "clear-chain")) {
         chain(1), a = measured(2, 0, 0, 0);
     } else if (!strcmp(name, "basket")) {

@@ -25,6 +25,7 @@ CASES = [
     ("collect-up", "COLLECT, a chain up", 1.00),
     ("collect-down", "COLLECT, a chain down", 1.00),
     ("collect-graph", "COLLECT, a random graph", 1.00),
+    ("collect-waiting", "COLLECT, a random graph, a cell queued", 1.00),
     ("clear-chain", "CLEAR that frees 1,024", 1.00),
 ]
 UNCHECKED = 700  # the most instructions of a basket call without its check

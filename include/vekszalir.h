@@ -145,8 +145,8 @@ vek_answer vek_store(VEK_TABLES, size_t object_root, size_t slot, size_t from_ro
 
 /* A sweep: objects that neither roots nor queue reach and whose finalizer is still to run join the queue, and all
    that they reach stays; every other cell that is not reached is freed. If the queue was empty when the call began, a
-   finalized object that stays was rescued, and its finalizer may run again; if not, it may stay only because a queued
-   one refers to it, and a later sweep decides. Allowed while a finalizer runs. Refused: SIZE, DAMAGED. */
+   finalized object that stays was rescued, and its finalizer may run again; if not, perhaps queued objects alone reach
+   it, so it stays finalized and a later sweep decides. Allowed while a finalizer runs. Refused: SIZE, DAMAGED. */
 vek_answer vek_collect(VEK_TABLES);
 
 /* The queue's head is placed in an empty root for its finalizer, which you then run. The queue stays.

@@ -95,7 +95,7 @@ static void choose_arguments(struct wish *wish, const struct heap *heap)
     }
 }
 
-/* Where a call has the root that it reads, if it reads one. */
+/* Which of its numbers is the root that a call reads; the first one, where it reads none. */
 static const size_t source_at[OPS] = { [COPY] = 1, [LOAD] = 1, [STORE] = 2 };
 
 /* A finalizer may put its cell in another place, which then keeps it. It may write the running root as well: FINISH has to

@@ -55,8 +55,8 @@ static const unsigned queue_at_least[OPS] = {
     [CLEAR] = 33, [COPY] = 1, [LOAD] = 1, [STORE] = 1, [COLLECT] = 257, [FINISH] = 2,
 };
 
-/* A landmark has to be met more often than so. Those of Q-2 count random calls alone, and a slip in any of them should
-   show more than once. */
+/* A landmark has to be met more often than so. Those of Q-2 count random calls alone, so that a slip there shows in many of
+   them. */
 static const unsigned long more_often_than[LANDMARKS] = {
     [COLLECT_RESCUES] = 100, [COLLECT_RESCUES_AND_QUEUES] = 100, [COLLECT_POSTPONES_RESCUE] = 100,
 };

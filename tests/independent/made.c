@@ -74,7 +74,8 @@ static void make_ring(struct heap *heap)
 {
     uint16_t first = 0;
     sow_slots(heap, densities[below(4)]);
-    *thread_objects(heap, &first) = first;
+    uint16_t *last = thread_objects(heap, &first);
+    *last = first;
 }
 
 /* A share of the objects with flags 1, from a random cell on, in falling or rising order. */

@@ -7,8 +7,8 @@
 /* The tables are all zeros before, and their lengths fit. */
 void make_sound(struct heap *heap);
 
-/* The objects stand in a ring that neither roots nor queue reach: the next COLLECT queues those with a finalizer, and these
-   reach the finalised ones. */
+/* The objects stand in a ring that neither roots nor queue reach: the next COLLECT queues those whose finalizer is still
+   to run, and these reach the finalised ones. */
 void make_loose(struct heap *heap);
 
 #endif

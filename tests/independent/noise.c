@@ -6,6 +6,8 @@
 #include "made.h"
 #include "random.h"
 
+enum { CALLS = 12 }; /* after a first COLLECT, or at once */
+
 static void change_an_entry(struct heap *heap)
 {
     struct table *table = table_of(heap, below(TABLES));
@@ -22,7 +24,7 @@ static void sound_tables(size_t cells, void (*make)(struct heap *))
     demand(pair_call(&pair, CLEAR, ROOTS, 0, 0).refused == NUMBER, "the tables drawn are sound");
     if (chance(50))
         knowing_collect(&pair);
-    for (int i = 0; i < 12; i++)
+    for (size_t i = 0; i < CALLS; i++)
         knowing_call(&pair, mood);
     pair_free(&pair);
 }

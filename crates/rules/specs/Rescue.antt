@@ -11,9 +11,9 @@ use Rattle.rules.specs.Calls.{Did}
 use Rattle.rules.specs.Demand3.{Frees, NextSweep}
 
 pub record RescueDecisions : Type 0 where
-  -- "if the queue held anything when COLLECT began, no flags 3 become 1 in that COLLECT": no flags change at all
+  -- "if the queue held anything when COLLECT began, no flags 3 become 1 in that COLLECT": no flags of a cell that stays change at all
   pub postponed : {before after : Heap} {answer : Answer} → Did COLLECT before after answer → 1 ≤ queued before
       → (c : ℕ) → ¬ Frees before after c → flagsOf after c ≡ flagsOf before c
-  -- otherwise a COLLECT done gives flags 1 for flags 3, and no other flags change
+  -- if it held nothing, a COLLECT done gives a cell that stays flags 1 for flags 3, and no other flags of one change
   pub made : {before after : Heap} {answer : Answer} → NextSweep before after answer → queued before ≡ 0
       → (c : ℕ) → ¬ Frees before after c → flagsOf after c ≡ cond (eqb (flagsOf before c) 3) 1 (flagsOf before c)

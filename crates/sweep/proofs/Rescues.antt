@@ -16,7 +16,7 @@ use Rattle.laws.specs.Lists.Select.{select-only, select-next, select-new}
 use Rattle.laws.specs.Collect.Phases.{rescued-all}
 use Rattle.laws.specs.Collect.Phases as phases
 use Rattle.laws.specs.Collect.Append.{rescue-append}
-use Rattle.sweep.specs.Phases.{isRescued, rescuedOf, only, Restored, Rescued}
+use Rattle.sweep.specs.Phases.{isRescued, rescuedOf, only, Restored, Decided}
 
 pub rescued-none : {f : List ℕ} (c : ℕ) {b : Bool} → b ≡ false → Restored f (only b c) f
 unfolding rescueAll
@@ -57,10 +57,10 @@ module _ {f f′ : List ℕ} (m : List ℕ) (c : ℕ) (inside : c ≤ length f) 
       let b₁ : Restored f′ (only (isRescued f m c) c) f″ = subst (λ (z : Bool). Restored f′ (only z c) f″) e b in
       subst (λ (l : List ℕ). Restored f l f″) (sym (select-next (isRescued f m) c)) (rescued-then (select (isRescued f m) c) (only (isRescued f m c) c) a b₁)
 
--- none while any cells were waiting, and otherwise all
-pub rescued-waiting : (f m : List ℕ) (waiting : ℕ) → waiting ≢ 0 → Rescued waiting f m f
+-- where any cells were waiting no cell is rescued, and otherwise all that pass
+pub decided-none : (f m : List ℕ) (waiting : ℕ) → waiting ≢ 0 → Decided waiting f m f
 unfolding rescueAll
-rescued-waiting f m waiting w = record { restored = record { heap = λ k n s t q c. rw (ne-eqb waiting 0 w) refl } }
+decided-none f m waiting w = record { restored = record { heap = λ k n s t q c. rw (ne-eqb waiting 0 w) refl } }
 
-pub rescued-decided : {f m f′ : List ℕ} (waiting : ℕ) → waiting ≡ 0 → Restored f (rescuedOf f m) f′ → Rescued waiting f m f′
-rescued-decided waiting w a = record { restored = rw (eq-eqb waiting 0 w) a }
+pub decided-all : {f m f′ : List ℕ} (waiting : ℕ) → waiting ≡ 0 → Restored f (rescuedOf f m) f′ → Decided waiting f m f′
+decided-all waiting w a = record { restored = rw (eq-eqb waiting 0 w) a }

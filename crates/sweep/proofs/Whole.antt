@@ -21,7 +21,7 @@ use Rattle.laws.specs.Sound.But.{SoundBut}
 use Rattle.laws.specs.Sound.Facts.{facts-ready, largest-count}
 use Rattle.laws.specs.Collect.Phases.{Enqueued, enqueued}
 use Rattle.laws.specs.Collect.Live.{due-only, due-once, due-room, due-within, kept-length}
-use Rattle.sweep.specs.Phases.{isRescued, dueOf, garbageOf, rescuedOf, QueueRoom, Queued, Unlinked, Same, Freed, Rescued, MarkedQueued, rounds, Swept, Collected}
+use Rattle.sweep.specs.Phases.{isRescued, dueOf, garbageOf, rescuedOf, QueueRoom, Queued, Unlinked, Same, Freed, Decided, MarkedQueued, rounds, Swept, Collected}
 
 module _ {h : Heap} (s : SoundBut h []) where
   sized : (m : List ℕ) → length m ≡ cells h → Slots (h .slots) (length m)
@@ -117,7 +117,7 @@ module _ {h : Heap} {n₁ q₁ w₁ m : List ℕ} {r : ℕ} (a : MarkedQueued h 
   unfolding rescued
   rescued-are i = cond (eqb (queued h) 0) (select (isRescued (swept-is i .flags) (a .marked i)) (size i)) []
 
-  pub collect-joins : {waiting : ℕ} {f″ : List ℕ} → Rescued waiting f′ m f″ → waiting ≡ queued h
+  pub collect-joins : {waiting : ℕ} {f″ : List ℕ} → Decided waiting f′ m f″ → waiting ≡ queued h
       → Collected h (tables k′ f″ n′ s′ (h .roots) q₁ w₁) (answers 0 freed r 0)
   unfolding collect
   collect-joins x e =

@@ -77,8 +77,8 @@ pub record Freed (kind flags count slots l kind′ flags′ count′ slots′ : 
 pub record Restored (flags l flags′ : List ℕ) : Type 0 where
   pub heap : (k n s t q w : List ℕ) → tables k flags′ n s t q w ≡ rescueAll (tables k flags n s t q w) l
 
--- the rescued got flags 1: none while any cells were waiting
-pub record Rescued (waiting : ℕ) (flags marks flags′ : List ℕ) : Type 0 where
+-- the rescued got flags 1, or, where any cells were waiting, none did
+pub record Decided (waiting : ℕ) (flags marks flags′ : List ℕ) : Type 0 where
   pub restored : Restored flags (cond (eqb waiting 0) (rescuedOf flags marks) []) flags′
 
 -- ---- the parts together

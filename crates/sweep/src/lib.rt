@@ -43,11 +43,11 @@ fn mark_and_queue(
         (tables (now (kind .entry)) (now (flags .entry)) (now (count .exit)) (now (slots .entry)) (now (roots .entry)) (now (queue .exit)) (now (control .exit)))
         (now (marks .exit)) r ⌝ }
 {
-    let old = control[0] as usize;
-    mark_all(slots, marks, roots, &queue[..old]);
+    let waiting = control[0] as usize;
+    mark_all(slots, marks, roots, &queue[..waiting]);
     let queued = queue_unmarked(kind, flags, count, queue, control, marks);
-    let all = old + queued as usize;
-    mark_from(slots, marks, &queue[old..all]);
+    let all = waiting + queued as usize;
+    mark_from(slots, marks, &queue[waiting..all]);
     queued
 }
 
@@ -85,6 +85,7 @@ fn mark_and_sweep(
     ensures { λ r. ⌜ Collected (tables (now (kind .entry)) (now (flags .entry)) (now (count .entry)) (now (slots .entry)) (now (roots .entry)) (now (queue .entry)) (now (control .entry)))
         (tables (now (kind .exit)) (now (flags .exit)) (now (count .exit)) (now (slots .exit)) (now (roots .entry)) (now (queue .exit)) (now (control .exit))) r ⌝ }
 {
+    // before mark_and_queue, since what this COLLECT queues does not count
     let waiting = control[0];
     let queued = mark_and_queue(kind, flags, count, slots, roots, queue, control, marks);
     let freed = sweep_unmarked(kind, flags, count, slots, marks);

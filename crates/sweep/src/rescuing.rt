@@ -1,11 +1,11 @@
-// Marked cells that were finalised get their finalizer back, unless cells were waiting in the queue.
+// Marked cells that were finalised get their finalizer back, unless the queue held any cells when COLLECT began.
 use crate::cells::is_rescued;
 use numbers::cell::Cell;
 use numbers::cell::CellNumber;
 ghost use Prim.Native.Nat.{_<_};
 ghost use mathlib.Core.Path.{_≡_};
 ghost use lib.ListN.{length};
-ghost use Rattle.sweep.specs.Phases.{isRescued, only, Restored, Rescued};
+ghost use Rattle.sweep.specs.Phases.{isRescued, only, Restored, Decided};
 
 // A cell gets flags 1 again, if it is rescued.
 fn rescue_cell(flags: &mut [u16], marks: &[u8], cell: Cell)
@@ -18,10 +18,10 @@ fn rescue_cell(flags: &mut [u16], marks: &[u8], cell: Cell)
     flags[cell.index()] = 1;
 }
 
-// All rescued cells get flags 1 again. What a waiting cell reaches is marked too, and may not have been rescued: while any waits, nothing is decided.
+// All rescued cells get flags 1 again, if no cells were waiting when COLLECT began: what these reach is marked as well, and need not have been rescued.
 pub fn rescue_marked(flags: &mut [u16], marks: &[u8], waiting: u16)
     requires { ⌜ length (now marks) ≡ length (now flags) ⌝ }
-    ensures { λ _. ⌜ Rescued waiting (now (flags .entry)) (now (marks .entry)) (now (flags .exit)) ⌝ }
+    ensures { λ _. ⌜ Decided waiting (now (flags .entry)) (now (marks .entry)) (now (flags .exit)) ⌝ }
 {
     if waiting != 0 {
         return;

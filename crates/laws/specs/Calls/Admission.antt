@@ -93,7 +93,7 @@ admitted h a = go (split (fits h)) (split (sound h))
 pub ready : (h : Heap) → admission h ≡ 0 → Ready h
 ready h a = let t = admitted h a in tests-ready (t .0) (t .1)
 
--- a call on any tables finds them ready, or is refused
+-- a call other than FRESH finds the tables ready, or is refused
 pub ready-or-refused : (h : Heap) (call : Call) → isFresh call ≡ false → Ready h ⊎ ((n : ℕ) × (step h call ≡ refuse h (suc n)))
 ready-or-refused h call f = go (admission h) refl
   where

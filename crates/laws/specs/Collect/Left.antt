@@ -28,7 +28,7 @@ pub record Left (h after : Heap) : Type 0 where
   pub flagsIn : (c : ℕ) → 1 ≤ occ c (garbage h) → flagsOf after c ≡ 0
   pub countIn : (c : ℕ) → 1 ≤ occ c (garbage h) → countOf after c ≡ 0
   pub slotsIn : (c i : ℕ) → i < 8 → 1 ≤ occ c (garbage h) → slotOf after c i ≡ 0
-  -- any other cell: its flags stay, or it was rescued, as each with flags 3 is if nothing was queued
+  -- any other cell: its flags stay, or it was rescued, as each with flags 3 is if the queue was empty when COLLECT began
   pub kindOut : (c : ℕ) → occ c (garbage h) ≡ 0 → kindOf after c ≡ kindOf h c
   pub flagsOut : (c : ℕ) → occ c (garbage h) ≡ 0 → (flagsOf after c ≡ flagsOf h c) ⊎ ((flagsOf h c ≡ 3) × (flagsOf after c ≡ 1) × (queued h ≡ 0))
   pub rescuedIn : (c : ℕ) → occ c (garbage h) ≡ 0 → flagsOf h c ≡ 3 → queued h ≡ 0 → flagsOf after c ≡ 1
@@ -168,7 +168,7 @@ module _ (h : Heap) (s : SoundBut h []) where
   queued-is : queued final ≡ queued h + length due
   queued-is = ap (λ (l : List ℕ). getD l 0 0) control-same ∙ phase1 .queuedIs
 
-  -- a cell that stays and has flags 3 is among them, if nothing is queued
+  -- a cell that stays and has flags 3 is rescued, if the queue was empty
   saved-in : (c : ℕ) → queued h ≡ 0 → occ c dead ≡ 0 → flagsOf h c ≡ 3 → 1 ≤ occ c saved
   unfolding rescued
   saved-in c q o f =

@@ -8,11 +8,11 @@ use borrow.Author.Needs.{needs}
 use Rattle.sweep.proofs.mark_and_queue.Statement.{statement}
 use Rattle.sweep.proofs.mark_and_queue.Tie as tie
 
-slice-read-old : tie.Need-slice-read-old
-slice-read-old c = omega (arith, c .before .before .before .before .before .before .before .before .before .pre .0 .fit .control-size)
+slice-read-waiting : tie.Need-slice-read-waiting
+slice-read-waiting c = omega (arith, c .before .before .before .before .before .before .before .before .before .pre .0 .fit .control-size)
 
-cast-old : tie.Need-cast-old
-cast-old c = search needs
+cast-waiting : tie.Need-cast-waiting
+cast-waiting c = search needs
 
 slice-reshare-prefix-mark-all : tie.Need-slice-reshare-prefix-mark-all
 slice-reshare-prefix-mark-all c =
@@ -113,8 +113,8 @@ pub mark-and-queue-spec : {M : Type 1} → statement M
 mark-and-queue-spec =
     tie.close
     (tie.spec
-    slice-read-old
-    cast-old
+    slice-read-waiting
+    cast-waiting
     slice-reshare-prefix-mark-all
     slice-aggregate-mark-all
     mark-all-requires

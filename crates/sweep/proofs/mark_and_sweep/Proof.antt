@@ -5,7 +5,7 @@ use Rattle.sweep.proofs.Whole.{sweep-asks, collect-joins}
 use Rattle.sweep.proofs.mark_and_sweep.Statement.{statement}
 use Rattle.sweep.proofs.mark_and_sweep.Tie as tie
 
--- where each call has returned that may write the tables
+-- where each of the three calls has returned
 abbrev after-rescue-marked : tie.After-slice-known17 → tie.After-rescue-marked
 after-rescue-marked c = c .before .before
 
@@ -48,7 +48,9 @@ rescue-marked-requires c κs =
 
 returns : tie.Need-returns
 returns c =
-    let entry = after-mark-and-queue c .before .before .before .before .before .before .before .before .before .before .before .before .before .before .before .before .before in
+    let entry =
+    after-mark-and-queue c .before .before .before .before .before .before .before .before .before .before .before .before .before .before .before .before
+    .before in
     let mark-and-queue = after-mark-and-queue c .mark-and-queue in
     let sweep-unmarked = after-sweep-unmarked c .sweep-unmarked in
     let rescue-marked = after-rescue-marked c .rescue-marked in

@@ -5,7 +5,7 @@ use mathlib.Core.Path.{_≡_, refl, _∙_}
 use lib.ListN.{length}
 use Rattle.rules.specs.Lists.{select}
 use Rattle.sweep.specs.Phases.{isRescued, Restored}
-use Rattle.sweep.proofs.Rescues.{rescued-start, rescued-next, rescued-waiting, rescued-decided}
+use Rattle.sweep.proofs.Rescues.{rescued-start, rescued-next, decided-none, decided-all}
 use borrow.Author.Needs.{needs}
 use Rattle.sweep.proofs.rescuing.rescue_marked.Statement.{statement}
 use Rattle.sweep.proofs.rescuing.rescue_marked.Tie as tie
@@ -20,7 +20,7 @@ abbrev μ-loop : tie.MeasureT-loop
 returns : tie.Need-returns Inv-loop μ-loop
 returns c =
     let entry = c .before .before .before in
-    rescued-waiting (entry .args .flags .now) (entry .args .marks .now) (entry .args .waiting) (λ z. omega arith)
+    decided-none (entry .args .flags .now) (entry .args .marks .now) (entry .args .waiting) (λ z. omega arith)
 
 loop-holds : tie.Need-loop-holds Inv-loop μ-loop
 loop-holds c =
@@ -85,7 +85,7 @@ returns-3 c =
     let loop = c .before .loop in
     let entry = c .before .before .before .before .before in
     let all : loop .c ≡ length (entry .args .flags .now) = omega arith in
-    rescued-decided (entry .args .waiting) (omega arith) (rw all at (loop .inv .2))
+    decided-all (entry .args .waiting) (omega arith) (rw all at (loop .inv .2))
 
 pub rescue-marked-spec : {M : Type 1} → statement M
 rescue-marked-spec =
