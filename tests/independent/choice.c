@@ -148,6 +148,18 @@ static bool finalised_became(const uint16_t *flags_before, const struct heap *he
     return false;
 }
 
+static void note_collect(bool running, bool queues, bool rescues, bool postpones)
+{
+    if (running)
+        coverage_landmark(COLLECT_WHILE_RUNNING);
+    if (rescues)
+        coverage_landmark(COLLECT_RESCUES);
+    if (rescues && queues)
+        coverage_landmark(COLLECT_RESCUES_AND_QUEUES);
+    if (postpones)
+        coverage_landmark(COLLECT_POSTPONES_RESCUE);
+}
+
 /* Q-2: "if the queue held anything when COLLECT began, no flags 3 become 1 in that COLLECT." If it held nothing, all of them
    do: a finalised cell that COLLECT doesn't free was marked. */
 void knowing_collect(struct pair *pair)
@@ -159,14 +171,7 @@ void knowing_collect(struct pair *pair)
     bool queues = pair_call(pair, COLLECT, 0, 0, 0).queued != 0;
     bool rescues = finalised_became(before, heap, FINALIZER), postpones = finalised_became(before, heap, FINALIZER | FINALISED);
     demand(!(held_anything ? rescues : postpones), "the queue decides whether COLLECT rescues");
-    if (running)
-        coverage_landmark(COLLECT_WHILE_RUNNING);
-    if (rescues)
-        coverage_landmark(COLLECT_RESCUES);
-    if (rescues && queues)
-        coverage_landmark(COLLECT_RESCUES_AND_QUEUES);
-    if (postpones)
-        coverage_landmark(COLLECT_POSTPONES_RESCUE);
+    note_collect(running, queues, rescues, postpones);
 }
 
 void knowing_call(struct pair *pair, enum mood mood)

@@ -1,9 +1,8 @@
 -- Document 02, Q-2, as a claim: what a COLLECT makes of the flags of a cell that it doesn't free.
 -- Assumes nothing: these are definitions.
 use Prim.Native.Nat.{ℕ, _≤_}
-use mathlib.Core.Bool.{cond}
+use mathlib.Core.Logic.{_≢_}
 use mathlib.Core.Path.{_≡_}
-use lib.Dec.{eqb}
 use Rattle.rules.specs.declared.Answer.{Answer}
 use Rattle.rules.specs.Heap.{Heap, queued, flagsOf}
 use Rattle.rules.specs.Refusals.Call.{COLLECT}
@@ -14,6 +13,9 @@ pub record RescueDecisions : Type 0 where
   -- "if the queue held anything when COLLECT began, no flags 3 become 1 in that COLLECT": no flags of a cell that stays change at all
   pub postponed : {before after : Heap} {answer : Answer} → Did COLLECT before after answer → 1 ≤ queued before
       → (c : ℕ) → ¬ Frees before after c → flagsOf after c ≡ flagsOf before c
-  -- if it held nothing, a COLLECT done gives a cell that stays flags 1 for flags 3, and no other flags of one change
+  -- if it held nothing, a COLLECT done gives a cell that stays flags 1 for flags 3
   pub made : {before after : Heap} {answer : Answer} → NextSweep before after answer → queued before ≡ 0
-      → (c : ℕ) → ¬ Frees before after c → flagsOf after c ≡ cond (eqb (flagsOf before c) 3) 1 (flagsOf before c)
+      → (c : ℕ) → ¬ Frees before after c → flagsOf before c ≡ 3 → flagsOf after c ≡ 1
+  -- and other flags it never changes
+  pub others : {before after : Heap} {answer : Answer} → Did COLLECT before after answer
+      → (c : ℕ) → ¬ Frees before after c → flagsOf before c ≢ 3 → flagsOf after c ≡ flagsOf before c

@@ -1,14 +1,10 @@
 -- Document 02, Q-2: what a COLLECT makes of the flags of a cell that it doesn't free, on any tables.
 -- Assumes nothing.
-use Prim.Native.Nat.{ℕ, _≤_}
+use Prim.Native.Nat.{ℕ}
 use native.Mathlib.Omega.{arith}
-use native.Mathlib.Decide.{ℕ-discrete}
 use mathlib.Core.List.{[]}
-use mathlib.Core.Bool.{Bool, cond}
-use mathlib.Core.Path.{_≡_, refl, sym, _∙_, ap, subst⁻¹}
-use mathlib.Core.Logic.{⊎-elim, by-cases}
-use lib.Dec.{eqb}
-use borrow.Author.Tests.{eq-eqb, ne-eqb}
+use mathlib.Core.Path.{_≡_, refl, _∙_, ap, subst⁻¹}
+use mathlib.Core.Logic.{_⊎_, inl, inr, ⊎-elim}
 use Rattle.rules.specs.declared.Answer.{Answer}
 use Rattle.rules.specs.Lists.{occ}
 use Rattle.rules.specs.Heap.{Heap, queued, flagsOf, Free}
@@ -33,36 +29,31 @@ module _ {before after : Heap} {answer : Answer} (did : Did COLLECT before after
       let f = collect-freed before s c b in
       stays (record { used = f .0; free = subst⁻¹ (λ (g : Heap). Free g c) (did .heap ∙ swept-heap before s) (f .1) }))
 
-  flags-swept : SoundBut before [] → {v : ℕ} → flagsOf (collect before .heap) c ≡ v → flagsOf after c ≡ v
-  flags-swept s e = ap (λ (g : Heap). flagsOf g c) (did .heap ∙ swept-heap before s) ∙ e
+  at-cell : SoundBut before [] → flagsOf after c ≡ flagsOf (collect before .heap) c
+  at-cell s = ap (λ (g : Heap). flagsOf g c) (did .heap ∙ swept-heap before s)
 
-  kept : (s : SoundBut before []) → 1 ≤ queued before → flagsOf (collect before .heap) c ≡ flagsOf before c
-  kept s q = ⊎-elim (λ e. e) (λ r. absurd (omega (arith, r .2))) (collect-left before s .flagsOut c (not-garbage s))
-
-  settled : (s : SoundBut before []) → queued before ≡ 0 → flagsOf (collect before .heap) c ≡ cond (eqb (flagsOf before c) 3) 1 (flagsOf before c)
-  settled s q =
-      by-cases (ℕ-discrete (flagsOf before c) 3)
-      (λ e. collect-left before s .rescuedIn c (not-garbage s) e q ∙ ap given (sym (eq-eqb _ 3 e)))
-      (λ n. ⊎-elim (λ e. e) (λ r. absurd (n (r .0))) (collect-left before s .flagsOut c (not-garbage s)) ∙ ap given (sym (ne-eqb _ 3 n)))
-    where
-      given : Bool → ℕ
-      given b = cond b 1 (flagsOf before c)
-
-  postponed : 1 ≤ queued before → flagsOf after c ≡ flagsOf before c
+  -- the flags stay, or the cell was rescued; a refused COLLECT changes nothing
+  stay-or-rescued : (flagsOf after c ≡ flagsOf before c) ⊎ ((flagsOf before c ≡ 3) × (queued before ≡ 0))
   unfolding isFresh refuse
-  postponed q =
+  stay-or-rescued =
       ⊎-elim
-      (λ r. let s = ready-facts r in flags-swept s (kept s q))
-      (λ p. ap (λ (g : Heap). flagsOf g c) (did .heap ∙ ap (λ (r : Result). r .heap) (p .1)))
+      (λ r.
+      let s = ready-facts r in
+      ⊎-elim (λ e. inl (at-cell s ∙ e)) (λ x. inr (x .0, x .2)) (collect-left before s .flagsOut c (not-garbage s)))
+      (λ p. inl (ap (λ (g : Heap). flagsOf g c) (did .heap ∙ ap (λ (r : Result). r .heap) (p .1))))
       (ready-or-refused before COLLECT refl)
 
-  made : answer .refused ≡ 0 → queued before ≡ 0 → flagsOf after c ≡ cond (eqb (flagsOf before c) 3) 1 (flagsOf before c)
+  made : answer .refused ≡ 0 → queued before ≡ 0 → flagsOf before c ≡ 3 → flagsOf after c ≡ 1
   unfolding isFresh refuse
-  made d q =
+  made d q f =
       ⊎-elim
-      (λ r. let s = ready-facts r in flags-swept s (settled s q))
+      (λ r. let s = ready-facts r in at-cell s ∙ collect-left before s .rescuedIn c (not-garbage s) f q)
       (λ p. absurd (omega (arith, d, ap (λ (a : Answer). a .refused) (did .answered ∙ ap (λ (r : Result). r .answer) (p .1)))))
       (ready-or-refused before COLLECT refl)
 
 pub rescue-decisions : RescueDecisions
-rescue-decisions = record { postponed = λ d q c s. postponed d c s q; made = λ n q c s. made (n .did) c s (n .done) q }
+rescue-decisions = record {
+  postponed = λ d q c s. ⊎-elim (λ e. e) (λ x. absurd (omega (arith, x .1))) (stay-or-rescued d c s);
+  made = λ n q c s. made (n .did) c s (n .done) q;
+  others = λ d c s n. ⊎-elim (λ e. e) (λ x. absurd (n (x .0))) (stay-or-rescued d c s);
+}

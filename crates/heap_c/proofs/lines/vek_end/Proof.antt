@@ -19,4 +19,4 @@ vek-end-spec =
     (λ c. after-end c .end .kept .1 .1 .1 .1 .1 .0)
     (λ c. after-end c .end .kept .1 .1 .1 .1 .1 .1 .0)
     (λ c. after-end c .end .kept .1 .1 .1 .1 .1 .1 .1 .1 .0)
-    (λ c. c .before .before .before .before .before .before .before .before .before .before .before .before .before .before .before .before .end .ensures))
+    (λ c. after-end c .end .ensures))

@@ -19,6 +19,4 @@ vek-take-spec =
     (λ c. after-take c .take .kept .1 .1 .1 .1 .1 .0)
     (λ c. after-take c .take .kept .1 .1 .1 .1 .1 .1 .0)
     (λ c. after-take c .take .kept .1 .1 .1 .1 .1 .1 .1 .1 .1 .0)
-    (λ c.
-    c .before .before .before .before .before .before .before .before .before .before .before .before .before .before .before .before .take
-    .ensures))
+    (λ c. after-take c .take .ensures))
