@@ -113,12 +113,14 @@ static void decref(heap *h, worklist *w, unsigned r)
     w->work[w->tail++] = c;
 }
 
-static void wipe(heap *h, size_t c)
+static inline void empty_slots(uint16_t *s) { memset(s, 0, VEK_SLOTS * sizeof *s); }
+
+/* A cell whose slots are empty becomes free. Only objects use slots: the callers empty theirs. */
+static inline void free_cell(heap *h, size_t c)
 {
     h->kind[c] = 0;
     h->flags[c] = 0;
     h->count[c] = 0;
-    memset(h->slots + VEK_SLOTS * c, 0, VEK_SLOTS * sizeof *h->slots);
 }
 
 /* A full take-off; the number of cells freed. */
@@ -136,10 +138,13 @@ static unsigned release(heap *h, unsigned r)
     size_t head = 0;
     for (; head < w.tail; head++) {
         size_t c = w.work[head];
-        const uint16_t *s = h->slots + VEK_SLOTS * c;
-        for (size_t i = 0; i < VEK_SLOTS; i++)
-            decref(h, &w, s[i]);
-        wipe(h, c);
+        uint16_t *s = h->slots + VEK_SLOTS * c;
+        if (h->kind[c] == VEK_OBJECT) {
+            for (size_t i = 0; i < VEK_SLOTS; i++)
+                decref(h, &w, s[i]);
+            empty_slots(s);
+        }
+        free_cell(h, c);
     }
     return head;
 }
@@ -210,7 +215,7 @@ static vek_answer collect(heap *h)
     mark_refs(h->slots, marks, h->queue + old, all - old);
     serve_noted(h->slots, marks, n);
     for (size_t c = 0; c < n; c++)
-        if (marks[c] == UNMARKED && h->kind[c]) {
+        if (marks[c] == UNMARKED && h->kind[c] == VEK_OBJECT) {
             const uint16_t *s = h->slots + VEK_SLOTS * c;
             for (size_t i = 0; i < VEK_SLOTS; i++)
                 if (s[i] && h->count[s[i] - 1])
@@ -219,7 +224,9 @@ static vek_answer collect(heap *h)
     unsigned freed = 0;
     for (size_t c = 0; c < n; c++)
         if (marks[c] == UNMARKED && h->kind[c]) {
-            wipe(h, c);
+            if (h->kind[c] == VEK_OBJECT)
+                empty_slots(h->slots + VEK_SLOTS * c);
+            free_cell(h, c);
             freed++;
         }
     if (old == 0)

@@ -105,6 +105,32 @@ static void graph(void)
         }
 }
 
+/* An object that holds a string in each of its slots from `slot` on; the strings are the cells behind it. */
+static void strings(size_t first, size_t slot)
+{
+    heap.kind[first] = 1;
+    for (size_t c = first + 1, j = slot; j < 8; c++, j++) {
+        heap.kind[c] = 2;
+        hold(heap.slots + 8 * first + j, c);
+    }
+}
+
+/* An object with eight strings, in root 0. */
+static void eight_strings(void)
+{
+    strings(0, 0);
+    hold(heap.roots, 0);
+}
+
+/* As many strings as COLLECT can free: a ring of objects that no root holds, with seven strings each. */
+static void ring_of_strings(void)
+{
+    for (size_t c = 0; c < N; c += 8) {
+        strings(c, 1);
+        hold(heap.slots + 8 * c, (c + 8) % N);
+    }
+}
+
 /* Cell 0 waits for its finalizer. */
 static void queue_cell_0(void)
 {
@@ -169,6 +195,10 @@ int main(int argc, char **argv)
         graph(), queue_cell_0(), a = measured(6, 0, 0, 0);
     } else if (!strcmp(name, "clear-chain")) {
         chain(1), a = measured(2, 0, 0, 0);
+    } else if (!strcmp(name, "clear-strings")) {
+        eight_strings(), a = measured(2, 0, 0, 0);
+    } else if (!strcmp(name, "collect-strings")) {
+        ring_of_strings(), a = measured(6, 0, 0, 0);
     } else if (!strcmp(name, "basket")) {
         calls = morning(make);
     } else if (!strcmp(name, "lines")) {

@@ -27,6 +27,8 @@ CASES = [
     ("collect-graph", "COLLECT, a random graph", 1.00),
     ("collect-waiting", "COLLECT, a random graph, a cell queued", 1.00),
     ("clear-chain", "CLEAR that frees 1,024", 1.00),
+    ("clear-strings", "CLEAR that frees an object with 8 strings", 0.90),
+    ("collect-strings", "COLLECT that frees 896 strings, 128 objects", 0.90),
 ]
 UNCHECKED = 700  # the most instructions of a basket call without its check
 LINE = 1000  # and of a line of the program

@@ -1,5 +1,6 @@
 pub mod Lists
 pub mod Sound
+pub mod Freeing
 pub mod Release
 pub mod Marking
 pub mod Reach

@@ -4,9 +4,8 @@ use mathlib.Core.Path.{_≡_, refl, sym, ap, _∙_, subst}
 use mathlib.Core.List.{List, [], _∷_, _++_, map, map-append, append-assoc, append-nil}
 use Prim.Native.Nat.{ℕ, suc, _+_, _-_, _≤_, _<_}
 use native.Mathlib.Omega.{arith}
-use lib.ListN.{length, getD, take, set, length-append}
-use lib.Seq.{set-getD}
-use Rattle.rules.specs.Heap.{tables, slotsOf, wipe}
+use lib.ListN.{length, getD, take, length-append}
+use Rattle.rules.specs.Heap.{Heap, tables, slotsOf, emptied, wipe}
 use Rattle.rules.specs.Release.{Work, decrefs, withPending, retire, serve, drain}
 use Rattle.laws.specs.Lists.Occ.{occ-empty, occ-length}
 use Rattle.laws.specs.Release.Balance.{Draining}
@@ -14,9 +13,10 @@ use Rattle.laws.specs.Release.Decref.{beside-balanced}
 use Rattle.laws.specs.Release.Advance.{Frame, decrefs-frame}
 use Rattle.laws.specs.Release.Onto.{onto, decrefs-onto}
 use Rattle.laws.specs.Release.Beside.{beside, drain-beside}
-use Rattle.laws.specs.Release.Serve.{work-list, served, emptied, serve-range, serve-slots, serve-begin, served-count, serve-draining, drain-empty, drain-step}
+use Rattle.laws.specs.Release.Serve.{work-list, served, serve-range, serve-slots, serve-begin, serve-draining, drain-empty, drain-step}
+use Rattle.freeing.specs.Freeing.{CellInTables, CellFreed}
 use Rattle.release.specs.Release.{WorkDone}
-use Rattle.release.specs.Steps.{working, ToComeOff, CameOff, CellInTables, CellWiped, Drainable}
+use Rattle.release.specs.Steps.{working, SlotsToComeOff, CameOff, Drainable}
 use Rattle.release.proofs.Listing.{Oldest, oldest, same-cells, listed-length}
 
 -- a work that has no roots drains to one that has none
@@ -107,31 +107,40 @@ module _ (k₀ f₀ n₀ s₀ q₀ t₀ w₀ : List ℕ) (tail : ℕ) (k f n s q
       unfolding rest
       next = front .is ∙ ap (λ (d : ℕ). d ∷ front .rest) (sym is)
 
-      pub cell-stands : CellInTables k f s c
-      cell-stands = record {
-        kind = serve-range _ _ _ _ _ next (g .draining);
-        flags = omega (arith, serve-range _ _ _ _ _ next (g .draining), g .draining .balanced .fit .flags-size);
+      stands : c < length k
+      stands = serve-range _ _ _ _ _ next (g .draining)
+
+      pub cell-stands : (n′ : List ℕ) → length n′ ≡ length n → CellInTables k f n′ s c
+      cell-stands n′ same = record {
+        kind = stands;
+        flags = omega (arith, stands, g .draining .balanced .fit .flags-size);
+        count = omega (arith, stands, g .draining .balanced .fit .count-size);
         slots = serve-slots _ _ _ _ _ next (g .draining);
       }
 
       -- the references in the cell's slots are due
-      pub cell-due : ToComeOff k f n q t w x (slotsOf s c)
+      pub cell-due : SlotsToComeOff k f n s q t w x c
       unfolding withPending slotsOf
       cell-due = record {
-        serving = c ∷ [];
-        done = g .gone;
-        pending = rest;
-        held = emptied s c ++ g .outside;
-        room = g .room;
-        listed = omega (arith, end-is, g .place, ap length next);
-        balanced = beside-balanced _ _ _ _ [] [] [] [] (serve-begin _ _ _ _ _ next (g .draining));
+        stands = stands;
+        inside = serve-slots _ _ _ _ _ next (g .draining);
+        plain = g .draining .plain;
+        due = record {
+          serving = c ∷ [];
+          done = g .gone;
+          pending = rest;
+          held = emptied s c ++ g .outside;
+          room = g .room;
+          listed = omega (arith, end-is, g .place, ap length next);
+          balanced = beside-balanced _ _ _ _ [] [] [] [] (serve-begin _ _ _ _ _ next (g .draining));
+        };
       }
 
       left : length k₀ - head ≡ suc (length k₀ - (head + 1))
       left = omega (arith, work-list _ _ _ _ (g .draining .balanced), g .place, ap length next, g .kind-kept)
 
       module _ (n′ q′ t′ w′ : List ℕ) (x′ : ℕ) (e : CameOff (decrefs (working k f n [] q t []) (slotsOf s c)) n′ q′ t′ w x w′ x′)
-          (k′ f′ s′ : List ℕ) (z : CellWiped k f s c k′ f′ s′) (kept : length w′ ≡ length w) where
+          (k′ f′ n″ s′ : List ℕ) (z : CellFreed k f n′ s c k′ f′ n″ s′) (kept : length w′ ≡ length w) where
         lowered : Work
         lowered = decrefs (working k f n [] q t []) (slotsOf s c)
 
@@ -152,45 +161,45 @@ module _ (k₀ f₀ n₀ s₀ q₀ t₀ w₀ : List ℕ) (tail : ℕ) (k f n s q
             ap (λ (p : List ℕ). decrefs (working k f n s q t p) (slotsOf s c)) (sym (append-nil rest))
             ∙ decrefs-onto s [] rest [] [] (working k f n [] q t []) (slotsOf s c)
 
-        -- and with the cell all zeros: it is the code's
-        serve-is : serve (working k f n s q t (g .pending)) c rest ≡ beside [] (c ∷ []) (lowered .queued) (working k′ f′ n′ s′ q′ t′ (rest ++ lowered .pending))
-        unfolding lowered serve onto retire wipe beside
+        -- and with the cell freed: it is the code's
+        serve-is : serve (working k f n s q t (g .pending)) c rest ≡ beside [] (c ∷ []) (lowered .queued) (working k′ f′ n″ s′ q′ t′ (rest ++ lowered .pending))
+        unfolding lowered serve onto retire beside
         serve-is =
+            let v : Heap = lowered .heap in
             let fr : Frame (working k f n [] q t []) lowered = decrefs-frame (working k f n [] q t []) (slotsOf s c) in
-            let kind : set (lowered .heap .kind) c 0 ≡ k′ = ap (λ (l : List ℕ). set l c 0) (fr .kind) ∙ sym (z .kind) in
-            let flags : set (lowered .heap .flags) c 0 ≡ f′ = ap (λ (l : List ℕ). set l c 0) (fr .flags) ∙ sym (z .flags) in
-            let zero-count : getD (lowered .heap .count) c 0 ≡ 0 =
-            ap (λ (u : Work). getD (u .heap .count) c 0) (sym served-is) ∙ served-count _ _ _ _ _ next (g .draining) in
-            let count : set (lowered .heap .count) c 0 ≡ n′ = ap (set (lowered .heap .count) c) (sym zero-count) ∙ set-getD (lowered .heap .count) c 0 ∙ sym (e .count) in
+            let off : tables (v .kind) (v .flags) (v .count) s [] (v .queue) (v .control) ≡ tables k f n′ s [] q′ t′ =
+            λ i. tables (fr .kind i) (fr .flags i) (sym (e .count) i) s [] (sym (e .queue) i) (sym (e .control) i) in
+            let zeros : wipe (tables (v .kind) (v .flags) (v .count) s [] (v .queue) (v .control)) c ≡ tables k′ f′ n″ s′ [] q′ t′ =
+            ap (λ (h : Heap). wipe h c) off ∙ sym (z .heap [] q′ t′) in
             ap (λ (u : Work). retire u c) served-is
             ∙ (λ i. record {
-              heap = tables (kind i) (flags i) (count i) (sym (z .slots) i) [] (sym (e .queue) i) (sym (e .control) i);
+              heap = zeros i;
               pending = rest ++ lowered .pending;
               freed = fr .freed i ++ (c ∷ []);
               queued = sym (append-nil (lowered .queued)) i;
             })
 
         drain-is : drain (length k₀ - head) (working k f n s q t (g .pending))
-            ≡ beside [] (c ∷ []) (lowered .queued) (drain (length k₀ - (head + 1)) (working k′ f′ n′ s′ q′ t′ (rest ++ lowered .pending)))
+            ≡ beside [] (c ∷ []) (lowered .queued) (drain (length k₀ - (head + 1)) (working k′ f′ n″ s′ q′ t′ (rest ++ lowered .pending)))
         drain-is =
             ap (λ (m : ℕ). drain m (working k f n s q t (g .pending))) left
             ∙ drain-step (length k₀ - (head + 1)) (working k f n s q t (g .pending)) c rest next
             ∙ ap (drain (length k₀ - (head + 1))) serve-is
-            ∙ drain-beside [] (c ∷ []) (lowered .queued) (length k₀ - (head + 1)) (working k′ f′ n′ s′ q′ t′ (rest ++ lowered .pending))
+            ∙ drain-beside [] (c ∷ []) (lowered .queued) (length k₀ - (head + 1)) (working k′ f′ n″ s′ q′ t′ (rest ++ lowered .pending))
 
-        next-draining : Draining (working k′ f′ n′ s′ q′ t′ (rest ++ lowered .pending)) (g .gone ++ (c ∷ [])) (g .outside)
+        next-draining : Draining (working k′ f′ n″ s′ q′ t′ (rest ++ lowered .pending)) (g .gone ++ (c ∷ [])) (g .outside)
         unfolding beside
         next-draining =
-            let d : Draining (beside [] (c ∷ []) (lowered .queued) (working k′ f′ n′ s′ q′ t′ (rest ++ lowered .pending))) (g .gone ++ (c ∷ [])) (g .outside) =
+            let d : Draining (beside [] (c ∷ []) (lowered .queued) (working k′ f′ n″ s′ q′ t′ (rest ++ lowered .pending))) (g .gone ++ (c ∷ [])) (g .outside) =
             subst (λ (u : Work). Draining u (g .gone ++ (c ∷ [])) (g .outside)) serve-is (serve-draining _ _ _ _ _ next (g .draining)) in
-            record { slots = d .slots; balanced = beside-balanced _ _ _ _ s′ [] [] [] (d .balanced) }
+            record { slots = d .slots; plain = d .plain; balanced = beside-balanced _ _ _ _ s′ [] [] [] (d .balanced) }
 
-        pub serve-on : length k′ ≡ length k → length f′ ≡ length f → length n′ ≡ length n → length s′ ≡ length s → length q′ ≡ length q → length t′ ≡ length t
-            → Serving k₀ f₀ n₀ s₀ q₀ t₀ w₀ tail k′ f′ n′ s′ q′ t′ w′ x′ (head + 1)
+        pub serve-on : length k′ ≡ length k → length f′ ≡ length f → length n″ ≡ length n → length s′ ≡ length s → length q′ ≡ length q → length t′ ≡ length t
+            → Serving k₀ f₀ n₀ s₀ q₀ t₀ w₀ tail k′ f′ n″ s′ q′ t′ w′ x′ (head + 1)
         unfolding beside
         serve-on lk lf ln ls lq lt =
             let goal : Work = drain (length k₀) (working k₀ f₀ n₀ s₀ q₀ t₀ (g .first)) in
-            let r : Reaches goal (beside [] (c ∷ []) (lowered .queued) (drain (length k₀ - (head + 1)) (working k′ f′ n′ s′ q′ t′ (rest ++ lowered .pending)))) head =
+            let r : Reaches goal (beside [] (c ∷ []) (lowered .queued) (drain (length k₀ - (head + 1)) (working k′ f′ n″ s′ q′ t′ (rest ++ lowered .pending)))) head =
             subst (λ (u : Work). Reaches goal u head) drain-is (g .reaches) in
             record {
               kind-kept = lk ∙ g .kind-kept;
@@ -211,7 +220,7 @@ module _ (k₀ f₀ n₀ s₀ q₀ t₀ w₀ : List ℕ) (tail : ℕ) (k f n s q
               place = omega (arith, g .place, length-append (g .gone) (c ∷ []));
               draining = next-draining;
               reaches = record {
-                heap = r .heap ∙ drain-rootless (length k₀ - (head + 1)) k′ f′ n′ s′ q′ t′ (rest ++ lowered .pending);
+                heap = r .heap ∙ drain-rootless (length k₀ - (head + 1)) k′ f′ n″ s′ q′ t′ (rest ++ lowered .pending);
                 freed = omega (arith, r .freed);
               };
             }

@@ -3,11 +3,11 @@
 use Prim.Native.Nat.{ℕ, suc, _+_, _*_, _-_, _≤_, _<_}
 use mathlib.Core.List.{List, [], _∷_, _++_, map}
 use mathlib.Core.Path.{_≡_}
-use lib.ListN.{length, take, set, getD}
-use Rattle.rules.specs.Heap.{tables}
+use lib.ListN.{length, take, getD}
+use Rattle.rules.specs.Heap.{tables, slotsOf}
 use Rattle.rules.specs.Release.{Work}
+use Rattle.laws.specs.Sound.But.{PlainSlots}
 use Rattle.laws.specs.Release.Balance.{Balanced, Draining}
-use Rattle.laws.specs.Release.Serve.{emptied}
 
 -- the tables with a work list, and nothing freed or queued yet
 abbrev pub working : (kind flags count slots queue control pending : List ℕ) → Work
@@ -23,6 +23,13 @@ pub record ToComeOff (kind flags count queue control work : List ℕ) (tail : �
   pub listed : tail ≡ length done + length (serving ++ pending)
   pub balanced : Balanced (working kind flags count [] queue control pending) serving done (due ++ held)
 
+-- the same for the slots of cell c, where those of strings and buffers are empty
+pub record SlotsToComeOff (kind flags count slots queue control work : List ℕ) (tail c : ℕ) : Type 0 where
+  pub stands : c < length kind
+  pub inside : 8 * c + 8 ≤ length slots
+  pub plain : PlainSlots kind slots
+  pub due : ToComeOff kind flags count queue control work tail (slotsOf slots c)
+
 -- the same for r alone, which is the last reference to its cell
 pub record LastToComeOff (kind flags count queue control work : List ℕ) (tail r : ℕ) : Type 0 where
   pub due : ToComeOff kind flags count queue control work tail (r ∷ [])
@@ -36,18 +43,6 @@ pub record CameOff (v : Work) (c q t before : List ℕ) (tail : ℕ) (after : Li
   pub control : t ≡ v .heap .control
   pub listed : take next after ≡ take tail before ++ map suc (v .pending)
   pub bound : next ≤ 1024
-
--- cell c stands in the tables
-pub record CellInTables (k f s : List ℕ) (c : ℕ) : Type 0 where
-  pub kind : c < length k
-  pub flags : c < length f
-  pub slots : 8 * c + 8 ≤ length s
-
--- cell c is all zeros in k′ f′ s′, which are k f s otherwise
-pub record CellWiped (k f s : List ℕ) (c : ℕ) (k′ f′ s′ : List ℕ) : Type 0 where
-  pub kind : k′ ≡ set k c 0
-  pub flags : f′ ≡ set f c 0
-  pub slots : s′ ≡ emptied s c
 
 -- the work list's entries before `tail` name the cells that wait, and everything else is in balance
 pub record Drainable (kind flags count slots queue control work : List ℕ) (tail : ℕ) : Type 0 where

@@ -1,5 +1,7 @@
 // Reference counting: a count rises, a reference comes off with all that follows from it, and the writes that do both.
 // A take-off keeps a work list of the cells whose count fell to zero: references to them, in an array of its own and not in the lent tables.
+use freeing::free_cell;
+use freeing::is_plain;
 use numbers::cell::Cell;
 use numbers::cell::CellNumber;
 use numbers::root::Root;
@@ -8,14 +10,13 @@ use rules::Answer;
 use rules::DONE;
 ghost use mathlib.Core.Path.{_≡_};
 ghost use mathlib.Core.List.{List, [], _∷_, map};
-ghost use Prim.Native.Nat.{ℕ, suc, _+_, _*_, _-_, _≤_};
+ghost use Prim.Native.Nat.{ℕ, suc, _-_};
 ghost use lib.ListN.{length, take};
 ghost use Rattle.rules.specs.Heap.{tables, slotsOf};
 ghost use Rattle.rules.specs.Release.{start, raise, finalizable, refzero, decref, decrefs, drain, release};
 ghost use Rattle.rules.specs.Calls.{writeRoot, writeSlot};
-ghost use Rattle.laws.specs.Release.Serve.{emptied};
 ghost use Rattle.release.specs.Release.{begun, Raisable, Releasable, WorkDone};
-ghost use Rattle.release.specs.Steps.{working, ToComeOff, LastToComeOff, CameOff, CellInTables, CellWiped, Drainable};
+ghost use Rattle.release.specs.Steps.{working, ToComeOff, SlotsToComeOff, LastToComeOff, CameOff, Drainable};
 ghost use Rattle.release.specs.Write.{Writable, SlotWritable, WorkFinished};
 
 // The last reference to a cell comes off. An object with a finalizer to run joins the queue, whose entry is a reference,
@@ -92,42 +93,23 @@ fn decref_slots(
     tail: usize,
     cell: Cell,
 ) -> usize
-    requires { ⌜ (8 * cell .0 + 8 ≤ length (now slots)) × ToComeOff (now kind) (now flags) (now count) (now queue) (now control) (now work) tail (slotsOf (now slots) (cell .0)) ⌝ }
+    requires { ⌜ SlotsToComeOff (now kind) (now flags) (now count) (now slots) (now queue) (now control) (now work) tail (cell .0) ⌝ }
     ensures { λ t. ⌜ CameOff (decrefs (working (now (kind .entry)) (now (flags .entry)) (now (count .entry)) [] (now (queue .entry)) (now (control .entry)) []) (slotsOf (now (slots .entry)) (cell .0)))
         (now (count .exit)) (now (queue .exit)) (now (control .exit)) (now (work .entry)) tail (now (work .exit)) t ⌝ }
 {
+    let c = cell.index();
+    // a string or buffer has nothing in its slots
+    if is_plain(kind[c]) {
+        return tail;
+    }
     let mut t = tail;
-    let mut i = 8 * cell.index();
+    let mut i = 8 * c;
     let end = i + 8;
     while i < end {
         t = decref(kind, flags, count, queue, control, work, t, slots[i]);
         i += 1;
     }
     t
-}
-
-// The eight slots of a cell become empty.
-fn zero_slots(slots: &mut [u16], cell: Cell)
-    requires { ⌜ 8 * cell .0 + 8 ≤ length (now slots) ⌝ }
-    ensures { λ _. ⌜ now (slots .exit) ≡ emptied (now (slots .entry)) (cell .0) ⌝ }
-{
-    let i = 8 * cell.index();
-    let mut k = 0;
-    while k < 8 {
-        slots[i + k] = 0;
-        k += 1;
-    }
-}
-
-// A cell becomes all zeros. Its count is 0 already.
-fn wipe(kind: &mut [u16], flags: &mut [u16], slots: &mut [u16], cell: Cell)
-    requires { ⌜ CellInTables (now kind) (now flags) (now slots) (cell .0) ⌝ }
-    ensures { λ _. ⌜ CellWiped (now (kind .entry)) (now (flags .entry)) (now (slots .entry)) (cell .0) (now (kind .exit)) (now (flags .exit)) (now (slots .exit)) ⌝ }
-{
-    let c = cell.index();
-    kind[c] = 0;
-    flags[c] = 0;
-    zero_slots(slots, cell);
 }
 
 // Serves the work list, oldest first, until it is empty. Returns the number of cells freed.
@@ -154,7 +136,7 @@ fn drain(
             return head as u16;
         };
         t = decref_slots(kind, flags, count, slots, queue, control, work, t, cell);
-        wipe(kind, flags, slots, cell);
+        free_cell(kind, flags, count, slots, cell);
         head += 1;
     }
     head as u16

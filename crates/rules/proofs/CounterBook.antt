@@ -2,7 +2,7 @@
 -- Assumes nothing.
 use mathlib.Core.Path.{refl}
 use Rattle.rules.specs.Lists.{every, all, below, occ, distinct, select}
-use Rattle.rules.specs.Heap.{slotsOf, fresh, setKind, setFlags, setCount, setSlot, setRoot, setRunning, setQueue, enqueue, wipe}
+use Rattle.rules.specs.Heap.{slotsOf, fresh, setKind, setFlags, setCount, setSlot, setRoot, setRunning, setQueue, enqueue, plain, wipe}
 use Rattle.rules.specs.Check.{fits, cellOk, cellAt, refOk, entryOk, runningOk, refs, countOk, sound}
 use Rattle.rules.specs.Refusals.{number, lowest, lowestFree, newOk, objectOk, conditions, isFresh, refusal}
 use Rattle.rules.specs.Release.{start, raise, incref, finalizable, refzero, lower, decref, decrefs, withPending, retire, serve, drain, release}
@@ -12,7 +12,7 @@ use Rattle.rules.specs.Calls.{refuse, done, finished, allocate, writeRoo
 use Rattle.rules.specs.CounterBook.{CounterBook, book, sameNumbers, holds, sameAnswer, follows}
 
 pub counter-book : CounterBook
-unfolding every all below occ distinct select slotsOf fresh setKind setFlags setCount setSlot setRoot setRunning setQueue enqueue wipe fits cellOk
+unfolding every all below occ distinct select slotsOf fresh setKind setFlags setCount setSlot setRoot setRunning setQueue enqueue plain wipe fits cellOk
     cellAt refOk entryOk runningOk refs countOk sound number lowest lowestFree newOk objectOk conditions isFresh refusal start raise incref finalizable
     refzero lower decref decrefs withPending retire serve drain release mark markIf spreadFrom spread closure markFrom reachedMarks unreachedFinalizable
     enqueueAll keptMarks garbage lowerAll unlinkAll wipeAll rescued rescueAll swept collect refuse done finished allocate writeRoot writeSlot startRun

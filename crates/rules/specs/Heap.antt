@@ -3,7 +3,9 @@
 -- Assumes nothing: these are definitions.
 use Prim.Native.Nat.{ℕ, suc, _+_, _*_, _≤_}
 use mathlib.Core.List.{List}
+use mathlib.Core.Bool.{Bool, _||_, cond}
 use mathlib.Core.Path.{_≡_}
+use lib.Dec.{eqb}
 use lib.ListN.{length, getD, take, drop, set, replicate}
 use lib.Seq.{sets}
 
@@ -99,6 +101,18 @@ setQueue h q n = tables (h .kind) (h .flags) (h .count) (h .slots) (h .roots) q 
 unfoldable pub enqueue : Heap → ℕ → Heap
 enqueue h c = setQueue h (set (h .queue) (queued h) (suc c)) (suc (queued h))
 
--- cell c is all zeros
+-- "2 string, 3 buffer": cells that hold no references
+unfoldable pub plain : ℕ → Bool
+plain k = eqb k 2 || eqb k 3
+
+-- slots with cell c's eight all 0
+abbrev pub emptied : List ℕ → ℕ → List ℕ
+emptied slots c = sets slots (8 * c) (replicate 8 0)
+
+-- Document 02, Q-3: "the freeing step should write no slot of a string or buffer: on any tables they stay as they were". Of a cell of this kind
+abbrev pub wipedSlots : ℕ → List ℕ → ℕ → List ℕ
+wipedSlots kind slots c = cond (plain kind) slots (emptied slots c)
+
+-- the freeing step: "the cell is all zeros"
 unfoldable pub wipe : Heap → ℕ → Heap
-wipe h c = tables (set (h .kind) c 0) (set (h .flags) c 0) (set (h .count) c 0) (sets (h .slots) (8 * c) (replicate 8 0)) (h .roots) (h .queue) (h .control)
+wipe h c = tables (set (h .kind) c 0) (set (h .flags) c 0) (set (h .count) c 0) (wipedSlots (kindOf h c) (h .slots) c) (h .roots) (h .queue) (h .control)

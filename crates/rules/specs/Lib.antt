@@ -15,5 +15,6 @@ pub mod Demand1
 pub mod Demand2
 pub mod Demand3
 pub mod Rescue
+pub mod Freeing
 pub mod Witness
 pub mod CounterBook

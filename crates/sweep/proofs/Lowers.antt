@@ -10,10 +10,13 @@ use mathlib.Core.Path.{_≡_, refl, sym, ap, _∙_}
 use lib.ListN.{length, getD, set, take}
 use lib.Seq.{set-getD, take-suc, take-all}
 use Rattle.rules.specs.Lists.{select}
-use Rattle.rules.specs.Heap.{Heap, tables, slotsOf, setCount}
+use Rattle.rules.specs.Heap.{Heap, tables, slotsOf, plain, setCount}
 use Rattle.rules.specs.Collect.{lowerAll, unlinkAll}
 use Rattle.laws.specs.Lists.Tables.{slot-entry, slots-length}
 use Rattle.laws.specs.Lists.Select.{select-next}
+use Rattle.laws.specs.Sound.But.{PlainSlots}
+use Rattle.laws.specs.Freeing.{plain-none}
+use Rattle.laws.specs.Collect.Phases.{lower-none}
 use Rattle.laws.specs.Collect.Append.{lower-append, unlink-append}
 use Rattle.sweep.specs.Phases.{only, TakenOff, Unlinked}
 
@@ -67,6 +70,11 @@ unlinked-none c e = record { heap = λ k f t q w. rw e refl }
 pub unlinked-one : {slots n n′ : List ℕ} (c : ℕ) {b : Bool} → b ≡ true → TakenOff n (slotsOf slots c) n′ → Unlinked slots n (only b c) n′
 unfolding unlinkAll
 unlinked-one {slots} c e a = record { heap = λ k f t q w. rw e (a .heap k f slots t q w) }
+
+-- a string or buffer, whose slots are empty
+pub unlinked-plain : {slots n : List ℕ} (kind : List ℕ) (c : ℕ) {b : Bool} → b ≡ true → PlainSlots kind slots → plain (getD kind c 0) ≡ true → Unlinked slots n (only b c) n
+unfolding unlinkAll
+unlinked-plain {slots} kind c e empty is = record { heap = λ k f t q w. rw e (sym (lower-none _ (slotsOf slots c) (plain-none kind slots c empty is))) }
 
 pub unlinked-start : {slots n : List ℕ} (p : ℕ → Bool) → Unlinked slots n (select p 0) n
 unfolding unlinkAll select

@@ -17,7 +17,7 @@ use Rattle.rules.specs.Calls.{answers}
 use Rattle.laws.specs.Marking.Marks.{Within, Slots, ClosedMarks}
 use Rattle.laws.specs.Marking.Closure.{zeros-settled}
 use Rattle.laws.specs.Reach.Marked.{slots-within, roots-within, entries-within, reached-length, reached-settled}
-use Rattle.laws.specs.Sound.But.{SoundBut}
+use Rattle.laws.specs.Sound.But.{PlainSlots, SoundBut}
 use Rattle.laws.specs.Sound.Facts.{facts-ready, largest-count}
 use Rattle.laws.specs.Collect.Phases.{Enqueued, enqueued}
 use Rattle.laws.specs.Collect.Live.{due-only, due-once, due-room, due-within, kept-length}
@@ -128,10 +128,11 @@ module _ {h : Heap} {n₁ q₁ w₁ m : List ℕ} {r : ℕ} (a : MarkedQueued h 
 
 -- what the sweep asks, after the queueing
 module _ {h : Heap} (s : SoundBut h []) {n₁ q₁ w₁ m : List ℕ} {r : ℕ} (a : MarkedQueued h (tables (h .kind) (h .flags) n₁ (h .slots) (h .roots) q₁ w₁) m r) where
-  pub sweep-asks : length n₁ ≡ length (h .count) → Same (h .kind) (h .flags) n₁ (h .slots) × (((length m ≡ length (h .kind)) × (length (h .kind) ≤ 1024)) × Within (length (h .kind)) (h .slots))
+  pub sweep-asks : length n₁ ≡ length (h .count) → Same (h .kind) (h .flags) n₁ (h .slots)
+      × (((length m ≡ length (h .kind)) × (length (h .kind) ≤ 1024)) × (Within (length (h .kind)) (h .slots) × PlainSlots (h .kind) (h .slots)))
   sweep-asks e = (
     record { flags-size = s .fit .flags-size; count-size = e ∙ s .fit .count-size; slots-size = s .slots },
-    ((ap length (a .marked) ∙ kept-length h s, s .fit .small), slots-within h s),
+    ((ap length (a .marked) ∙ kept-length h s, s .fit .small), (slots-within h s, s .shaped .plainSlots)),
   )
 
 -- marks that are all unmarked: their number, and the part that is lent

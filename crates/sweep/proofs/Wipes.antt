@@ -1,4 +1,4 @@
--- Laws of the second round: one cell becomes all zeros or none, cell after cell; the cells to come keep their kind.
+-- Laws of the second round: one cell becomes free or none, cell after cell; the cells to come keep their kind.
 -- Assumes nothing.
 use Prim.Native.Nat.{ℕ, _+_, _*_, _≤_}
 use native.Mathlib.Omega.{arith}
@@ -6,15 +6,15 @@ use mathlib.Core.List.{List, [], _++_}
 use mathlib.Core.Bool.{Bool, true, false, not, _&&_}
 use mathlib.Core.Path.{_≡_, refl, sym, ap, subst, _∙_}
 use lib.Dec.{eqb}
-use lib.ListN.{length, getD, set, replicate, length-append}
-use lib.Seq.{sets}
+use lib.ListN.{length, getD, length-append}
 use Rattle.rules.specs.Lists.{select}
-use Rattle.rules.specs.Heap.{Heap, tables, wipe}
+use Rattle.rules.specs.Heap.{Heap, tables}
 use Rattle.rules.specs.Collect.{wipeAll}
 use Rattle.laws.specs.Lists.Select.{select-only, select-once, select-next, select-new}
 use Rattle.laws.specs.Lists.Pigeonhole.{pigeonhole}
-use Rattle.laws.specs.Collect.Phases.{Wiped, wiped}
+use Rattle.laws.specs.Collect.Wiping.{Wiped, wiped}
 use Rattle.laws.specs.Collect.Append.{wipe-append}
+use Rattle.freeing.specs.Freeing.{CellFreed}
 use Rattle.sweep.specs.Phases.{isGarbage, only, Same, Freed}
 
 module _ {k f n s : List ℕ} where
@@ -23,9 +23,9 @@ module _ {k f n s : List ℕ} where
   freed-none c e = record { heap = λ t q w. rw e refl; many = rw e refl }
 
   pub freed-one : {k′ f′ n′ s′ : List ℕ} (c : ℕ) {b : Bool} → b ≡ true
-      → k′ ≡ set k c 0 → f′ ≡ set f c 0 → n′ ≡ set n c 0 → s′ ≡ sets s (8 * c) (replicate 8 0) → Freed k f n s (only b c) k′ f′ n′ s′ 1
-  unfolding wipeAll wipe
-  freed-one c e ek ef en es = record { heap = λ t q w. rw e (λ i. tables (ek i) (ef i) (en i) (es i) t q w); many = rw e refl }
+      → CellFreed k f n s c k′ f′ n′ s′ → Freed k f n s (only b c) k′ f′ n′ s′ 1
+  unfolding wipeAll
+  freed-one c e z = record { heap = λ t q w. rw e (z .heap t q w); many = rw e refl }
 
   pub freed-start : (p : ℕ → Bool) → Freed k f n s (select p 0) k f n s 0
   unfolding wipeAll select
@@ -45,9 +45,7 @@ module _ {k f n s k′ f′ n′ s′ : List ℕ} {r : ℕ} (m : List ℕ) (c : 
 
   gone : Wiped h (wipeAll h (select (isGarbage k m) c)) (select (isGarbage k m) c)
   unfolding h
-  gone =
-      wiped h (select (isGarbage k m) c) (select-once (isGarbage k m) c)
-      (λ x o. omega (arith, same .slots-size, select-only (isGarbage k m) c x o .0))
+  gone = wiped h (select (isGarbage k m) c)
 
   is : tables k′ f′ n′ s′ [] [] [] ≡ wipeAll h (select (isGarbage k m) c)
   unfolding h

@@ -68,7 +68,7 @@ pub record Same (kind flags count slots : List ℕ) : Type 0 where
   pub count-size : length count ≡ length kind
   pub slots-size : length slots ≡ 8 * length kind
 
--- the cells l became all zeros, and were counted
+-- the cells l were freed, and counted
 pub record Freed (kind flags count slots l kind′ flags′ count′ slots′ : List ℕ) (r : ℕ) : Type 0 where
   pub heap : (t q w : List ℕ) → tables kind′ flags′ count′ slots′ t q w ≡ wipeAll (tables kind flags count slots t q w) l
   pub many : r ≡ length l

@@ -30,10 +30,11 @@ pub fn is_garbage(kind: &[u16], marks: &[u8], cell: Cell) -> bool
     requires { ⌜ cell .0 < length (now marks) ⌝ }
     ensures { λ r. ⌜ r ≡ isGarbage (now (kind .entry)) (now (marks .entry)) (cell .0) ⌝ }
 {
-    if kind[cell.index()] == 0 {
+    // first the mark: most cells have one
+    if mark_of(marks, cell) != UNMARKED {
         return false;
     }
-    mark_of(marks, cell) == UNMARKED
+    kind[cell.index()] != 0
 }
 
 // A marked cell whose finalizer has run: it may run again.

@@ -22,7 +22,7 @@ ghost use Rattle.rules.specs.Heap.{tables};
 ghost use Rattle.rules.specs.Sound.{Ready};
 ghost use Rattle.rules.specs.Calls.{Did};
 ghost use Rattle.rules.specs.Refusals.Call.{COLLECT};
-ghost use Rattle.laws.specs.Sound.But.{SoundBut};
+ghost use Rattle.laws.specs.Sound.But.{PlainSlots, SoundBut};
 ghost use Rattle.laws.specs.Marking.Marks.{Within};
 ghost use Rattle.sweep.specs.Phases.{Same, MarkedQueued, Swept, Collected};
 
@@ -62,6 +62,7 @@ fn sweep_unmarked(
     requires { ⌜ Same (now kind) (now flags) (now count) (now slots) ⌝ }
     requires { ⌜ (length (now marks) ≡ length (now kind)) × (length (now kind) ≤ 1024) ⌝ }
     requires { ⌜ Within (length (now kind)) (now slots) ⌝ }
+    requires { ⌜ PlainSlots (now kind) (now slots) ⌝ }
     ensures { λ r. ⌜ Swept (now (kind .entry)) (now (flags .entry)) (now (count .entry)) (now (slots .entry)) (now (marks .entry))
         (now (kind .exit)) (now (flags .exit)) (now (count .exit)) (now (slots .exit)) r ⌝ }
 {

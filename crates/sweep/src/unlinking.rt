@@ -1,5 +1,6 @@
 // The first round: references of unmarked cells come off their targets' counts.
 use crate::cells::is_garbage;
+use freeing::is_plain;
 use numbers::cell::Cell;
 use numbers::cell::CellNumber;
 ghost use Prim.Native.Nat.{_≤_, _<_};
@@ -7,6 +8,7 @@ ghost use mathlib.Core.List.{[], _∷_};
 ghost use mathlib.Core.Path.{_≡_};
 ghost use lib.ListN.{length};
 ghost use Rattle.rules.specs.Heap.{slotsOf};
+ghost use Rattle.laws.specs.Sound.But.{PlainSlots};
 ghost use Rattle.laws.specs.Marking.Marks.{Slots};
 ghost use Rattle.sweep.specs.Phases.{isGarbage, garbageOf, only, TakenOff, Unlinked};
 
@@ -41,9 +43,14 @@ fn unlink_cell(kind: &[u16], count: &mut [u16], slots: &[u16], marks: &[u8], cel
     requires { ⌜ (length (now kind) ≡ length (now count)) × (length (now marks) ≡ length (now count)) ⌝ }
     requires { ⌜ Slots (now slots) (length (now count)) ⌝ }
     requires { ⌜ cell .0 < length (now count) ⌝ }
+    requires { ⌜ PlainSlots (now kind) (now slots) ⌝ }
     ensures { λ _. ⌜ Unlinked (now (slots .entry)) (now (count .entry)) (only (isGarbage (now (kind .entry)) (now (marks .entry)) (cell .0)) (cell .0)) (now (count .exit)) ⌝ }
 {
     if !is_garbage(kind, marks, cell) {
+        return;
+    }
+    // a string or buffer has nothing in its slots
+    if is_plain(kind[cell.index()]) {
         return;
     }
     lower_targets(count, slots, cell);
@@ -53,6 +60,7 @@ fn unlink_cell(kind: &[u16], count: &mut [u16], slots: &[u16], marks: &[u8], cel
 pub fn unlink_unmarked(kind: &[u16], count: &mut [u16], slots: &[u16], marks: &[u8])
     requires { ⌜ (length (now kind) ≡ length (now count)) × (length (now marks) ≡ length (now count)) ⌝ }
     requires { ⌜ Slots (now slots) (length (now count)) ⌝ }
+    requires { ⌜ PlainSlots (now kind) (now slots) ⌝ }
     ensures { λ _. ⌜ Unlinked (now (slots .entry)) (now (count .entry)) (garbageOf (now (kind .entry)) (now (marks .entry))) (now (count .exit)) ⌝ }
 {
     for c in 0..kind.len() {

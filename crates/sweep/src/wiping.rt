@@ -1,24 +1,14 @@
-// The second round: unmarked cells become all zeros.
+// The second round: unmarked cells become free.
 use crate::cells::is_garbage;
+use freeing::free_cell;
 use numbers::cell::Cell;
 use numbers::cell::CellNumber;
-ghost use Prim.Native.Nat.{_+_, _*_, _≤_, _<_};
+ghost use Prim.Native.Nat.{_≤_, _<_};
 ghost use mathlib.Core.Path.{_≡_};
-ghost use lib.ListN.{length, replicate};
-ghost use lib.Seq.{sets};
+ghost use lib.ListN.{length};
 ghost use Rattle.sweep.specs.Phases.{isGarbage, garbageOf, only, Same, Freed};
 
-// The eight slots of a cell become empty.
-fn clear_slots(slots: &mut [u16], cell: Cell)
-    requires { ⌜ 8 * cell .0 + 8 ≤ length (now slots) ⌝ }
-    ensures { λ _. ⌜ now (slots .exit) ≡ sets (now (slots .entry)) (8 * cell .0) (replicate 8 0) ⌝ }
-{
-    for k in 0..8 {
-        slots[8 * cell.index() + k] = 0;
-    }
-}
-
-// A cell becomes all zeros, if it is garbage; answers how many did, 0 or 1.
+// A cell becomes free, if it is garbage; answers how many did, 0 or 1.
 fn wipe_cell(
     kind: &mut [u16],
     flags: &mut [u16],
@@ -35,15 +25,11 @@ fn wipe_cell(
     if !is_garbage(kind, marks, cell) {
         return 0;
     }
-    let c = cell.index();
-    kind[c] = 0;
-    flags[c] = 0;
-    count[c] = 0;
-    clear_slots(slots, cell);
+    free_cell(kind, flags, count, slots, cell);
     1
 }
 
-// All garbage becomes all zeros; answers how many cells.
+// All garbage becomes free; answers how many cells.
 pub fn wipe_unmarked(
     kind: &mut [u16],
     flags: &mut [u16],

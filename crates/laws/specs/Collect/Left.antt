@@ -18,7 +18,8 @@ use Rattle.laws.specs.Lists.Tables.{inside}
 use Rattle.laws.specs.Lists.Tests.{and-join, and-left}
 use Rattle.laws.specs.Lists.Select.{cond-only, select-only, select-in}
 use Rattle.laws.specs.Sound.But.{SoundBut}
-use Rattle.laws.specs.Collect.Phases.{Enqueued, enqueued, Lowered, heldBy, unlinked, Wiped, wiped, Rescued, rescued-all}
+use Rattle.laws.specs.Collect.Phases.{Enqueued, enqueued, Lowered, heldBy, unlinked, Rescued, rescued-all}
+use Rattle.laws.specs.Collect.Wiping.{Wiped, wiped, Emptied, emptied-all}
 use Rattle.laws.specs.Collect.Live.{due-only, due-room, kept-bits, garbage-only, garbage-once, out-live}
 
 -- from the tables h to those that COLLECT leaves
@@ -87,7 +88,13 @@ module _ (h : Heap) (s : SoundBut h []) where
 
   phase3 : Wiped h2 (swept h) dead
   unfolding swept
-  phase3 = wiped h2 dead (garbage-once h s) (λ x b. omega (arith, ap length slots2, s .slots, inside (h .kind) x (garbage-only h s x b .0)))
+  phase3 = wiped h2 dead
+
+  phase3-slots : Emptied h2 (swept h) dead
+  unfolding swept
+  phase3-slots =
+      emptied-all h2 dead (rw (kind2, slots2) (s .shaped .plainSlots)) (garbage-once h s)
+      (λ x b. omega (arith, ap length slots2, s .slots, inside (h .kind) x (garbage-only h s x b .0)))
 
   abbrev isRescued : ℕ → Bool
   isRescued c = eqb (flagsOf (swept h) c) 3 && eqb (getD (keptMarks h) c 0) 1
@@ -130,7 +137,7 @@ module _ (h : Heap) (s : SoundBut h []) where
   slots-out c i b o = ap (λ (l : List ℕ). getD l (8 * c + i) 0) (phase4 .slots) ∙ phase3 .slotsOut c i b o ∙ ap (λ (l : List ℕ). getD l (8 * c + i) 0) slots2
 
   slots-in : (c i : ℕ) → i < 8 → 1 ≤ occ c dead → slotOf final c i ≡ 0
-  slots-in c i b d = ap (λ (l : List ℕ). getD l (8 * c + i) 0) (phase4 .slots) ∙ phase3 .slotsIn c i b d
+  slots-in c i b d = ap (λ (l : List ℕ). getD l (8 * c + i) 0) (phase4 .slots) ∙ phase3-slots .slotsIn c i b d
 
   abbrev lost : ℕ → ℕ
   lost c = heldBy (h .slots) dead (suc c)
@@ -154,7 +161,7 @@ module _ (h : Heap) (s : SoundBut h []) where
       omega (
         arith,
         ap (occ (suc c)) (phase4 .slots),
-        phase3 .slotsOcc c,
+        phase3-slots .slotsOcc c,
         ap (λ (l : List ℕ). heldBy l dead (suc c)) slots2,
         ap (occ (suc c)) slots2,
       )

@@ -1,18 +1,18 @@
--- The phases of COLLECT, table by table: queueing, taking off, wiping, rescuing.
+-- The phases of COLLECT that free no cell, table by table: queueing, taking off, rescuing.
 -- Assumes nothing.
-use Prim.Native.Nat.{ℕ, zero, suc, _+_, _*_, _-_, _≤_, _<_}
+use Prim.Native.Nat.{ℕ, zero, suc, _+_, _-_, _≤_, _<_}
 use native.Mathlib.Omega.{arith}
 use native.Mathlib.Decide.{ℕ-discrete, decLt}
 use mathlib.Core.List.{List, [], _∷_, _++_, map, append-assoc, append-nil}
 use mathlib.Core.Path.{_≡_, refl, sym, _∙_, ap}
-use mathlib.Core.Logic.{_≢_, by-cases}
-use lib.ListN.{length, getD, set, replicate, length-set, length-take, length-drop, List·getD-eq-default}
-use lib.Seq.{getD-set-same, getD-set-other, take-suc-set, sets, length-sets, set-out, ext-getD}
+use mathlib.Core.Logic.{by-cases}
+use lib.ListN.{length, getD, set, length-set, List·getD-eq-default}
+use lib.Seq.{getD-set-same, getD-set-other, take-suc-set, set-out}
 use Rattle.rules.specs.Lists.{occ}
-use Rattle.rules.specs.Heap.{Heap, queued, running, kindOf, flagsOf, countOf, slotOf, slotsOf, entries, setCount, setFlags, setQueue, enqueue, wipe}
-use Rattle.rules.specs.Collect.{enqueueAll, lowerAll, unlinkAll, wipeAll, rescueAll}
-use Rattle.laws.specs.Lists.Tables.{by-cell, set-here, zeros-in, zeros-out, slot-entry, slots-most, apart}
-use Rattle.laws.specs.Lists.Occ.{occ-nil, occ-here, occ-cons, occ-one, occ-other, occ-single, occ-cleared}
+use Rattle.rules.specs.Heap.{Heap, queued, running, flagsOf, countOf, slotsOf, entries, setCount, setFlags, setQueue, enqueue}
+use Rattle.rules.specs.Collect.{enqueueAll, lowerAll, unlinkAll, rescueAll}
+use Rattle.laws.specs.Lists.Tables.{by-cell}
+use Rattle.laws.specs.Lists.Occ.{occ-nil, occ-here, occ-cons, occ-one, occ-other, occ-absent, occ-single}
 
 -- ---- a count that rises or falls by one
 
@@ -171,6 +171,13 @@ lowered h (suc c ∷ l) =
     lowered-then h _ _ (λ x. occ x (c ∷ [])) (λ x. occ (suc x) l) _ (λ x. omega (arith, occ-cons (suc x) (suc c) l, occ-suc x c))
     (lowered-one h c) (lowered _ l)
 
+-- references that are empty come off nothing
+pub lower-none : (h : Heap) (l : List ℕ) → ((i : ℕ) → i < length l → getD l i 0 ≡ 0) → lowerAll h l ≡ h
+unfolding lowerAll
+lower-none h [] none = refl
+lower-none h (zero ∷ l) none = lower-none h l (λ i b. none (suc i) (omega arith))
+lower-none h (suc r ∷ l) none = absurd (omega (arith, none 0 (omega arith)))
+
 -- how often the slots of a list of cells hold x
 unfoldable pub heldBy : List ℕ → List ℕ → ℕ → ℕ
 heldBy slots [] x = 0
@@ -184,128 +191,6 @@ unlinked h (c ∷ l) =
     let one : Lowered h (lowerAll h s) (λ x. occ (suc x) s) = lowered h s in
     lowered-then h (lowerAll h s) _ (λ x. occ (suc x) s) (λ x. heldBy (lowerAll h s .slots) l (suc x)) _
     (λ x. ap (λ (k : List ℕ). occ (suc x) s + heldBy k l (suc x)) (one .slots)) one (unlinked (lowerAll h s) l)
-
--- ---- cells become all zeros
-
--- the cells of l are all zeros, the others are as they were
-pub record Wiped (h after : Heap) (l : List ℕ) : Type 0 where
-  pub roots : after .roots ≡ h .roots
-  pub queue : after .queue ≡ h .queue
-  pub control : after .control ≡ h .control
-  pub kindLength : length (after .kind) ≡ length (h .kind)
-  pub flagsLength : length (after .flags) ≡ length (h .flags)
-  pub countLength : length (after .count) ≡ length (h .count)
-  pub slotsLength : length (after .slots) ≡ length (h .slots)
-  pub kindOut : (x : ℕ) → occ x l ≡ 0 → kindOf after x ≡ kindOf h x
-  pub flagsOut : (x : ℕ) → occ x l ≡ 0 → flagsOf after x ≡ flagsOf h x
-  pub countOut : (x : ℕ) → occ x l ≡ 0 → countOf after x ≡ countOf h x
-  pub slotsOut : (x s : ℕ) → s < 8 → occ x l ≡ 0 → slotOf after x s ≡ slotOf h x s
-  pub kindIn : (x : ℕ) → 1 ≤ occ x l → kindOf after x ≡ 0
-  pub flagsIn : (x : ℕ) → 1 ≤ occ x l → flagsOf after x ≡ 0
-  pub countIn : (x : ℕ) → 1 ≤ occ x l → countOf after x ≡ 0
-  pub slotsIn : (x s : ℕ) → s < 8 → 1 ≤ occ x l → slotOf after x s ≡ 0
-  pub slotsOcc : (y : ℕ) → occ (suc y) (after .slots) + heldBy (h .slots) l (suc y) ≡ occ (suc y) (h .slots)
-
-not-only : (x c : ℕ) → occ x (c ∷ []) ≡ 0 → x ≢ c
-not-only x c z e = omega (arith, occ-one x c e)
-
-cleared-in : (l : List ℕ) (c x : ℕ) → 1 ≤ occ x (c ∷ []) → getD (set l c 0) x 0 ≡ 0
-cleared-in l c x i = ap (λ (y : ℕ). getD (set l c 0) y 0) (occ-single x c i) ∙ set-here l c
-
-wiped-one : (h : Heap) (c : ℕ) → 8 * c + 8 ≤ length (h .slots) → Wiped h (wipe h c) (c ∷ [])
-unfolding wipe heldBy slotsOf
-wiped-one h c room = record {
-  roots = refl;
-  queue = refl;
-  control = refl;
-  kindLength = length-set (h .kind) c 0;
-  flagsLength = length-set (h .flags) c 0;
-  countLength = length-set (h .count) c 0;
-  slotsLength = length-sets (h .slots) (8 * c) (replicate 8 0);
-  kindOut = λ x o. getD-set-other (h .kind) c x 0 0 (not-only x c o);
-  flagsOut = λ x o. getD-set-other (h .flags) c x 0 0 (not-only x c o);
-  countOut = λ x o. getD-set-other (h .count) c x 0 0 (not-only x c o);
-  slotsOut = λ x s b o. zeros-out 8 (h .slots) (8 * c) (8 * x + s) (apart x c s b (not-only x c o));
-  kindIn = cleared-in (h .kind) c;
-  flagsIn = cleared-in (h .flags) c;
-  countIn = cleared-in (h .count) c;
-  slotsIn = λ x s b i. let e : x ≡ c = occ-single x c i in zeros-in 8 (h .slots) (8 * c) (8 * x + s) (omega arith) (omega arith);
-  slotsOcc = λ y. omega (arith, occ-cleared 8 (h .slots) (8 * c) y room);
-}
-
--- the slots of another cell are not touched
-wiped-others : (h : Heap) (c d : ℕ) → d ≢ c → slotsOf (wipe h c .slots) d ≡ slotsOf (h .slots) d
-unfolding wipe
-wiped-others h c d n =
-    ext-getD 0 (slotsOf k d) (slotsOf (h .slots) d) (short (length-sets (h .slots) (8 * c) (replicate 8 0)))
-    (λ i b.
-    let i8 : i < 8 = omega (arith, slots-most k d) in
-    slot-entry k d i i8 ∙ zeros-out 8 (h .slots) (8 * c) (8 * d + i) (apart d c i i8 n) ∙ sym (slot-entry (h .slots) d i i8))
-  where
-    k : List ℕ
-    k = sets (h .slots) (8 * c) (replicate 8 0)
-
-    short : length k ≡ length (h .slots) → length (slotsOf k d) ≡ length (slotsOf (h .slots) d)
-    short e = unfold slotsOf in simp (length-take, length-drop, e)
-
-heldBy-others : (h : Heap) (c : ℕ) (l : List ℕ) → occ c l ≡ 0 → (y : ℕ) → heldBy (wipe h c .slots) l y ≡ heldBy (h .slots) l y
-unfolding heldBy
-heldBy-others h c [] o y = refl
-heldBy-others h c (d ∷ l) o y =
-    let n : d ≢ c = λ e. omega (arith, occ-cons c d l, occ-one c d (sym e)) in
-    omega (arith, ap (occ y) (wiped-others h c d n), heldBy-others h c l (omega (arith, occ-cons c d l)) y)
-
-wiped-then : (h k : Heap) (c : ℕ) (l : List ℕ) → occ c l ≡ 0 → Wiped h (wipe h c) (c ∷ []) → Wiped (wipe h c) k l → Wiped h k (c ∷ l)
-unfolding heldBy
-wiped-then h k c l o a b =
-    let sum : (x : ℕ) → occ x (c ∷ l) ≡ occ x (c ∷ []) + occ x l = λ x. occ-cons x c l in
-    record {
-      roots = b .roots ∙ a .roots;
-      queue = b .queue ∙ a .queue;
-      control = b .control ∙ a .control;
-      kindLength = b .kindLength ∙ a .kindLength;
-      flagsLength = b .flagsLength ∙ a .flagsLength;
-      countLength = b .countLength ∙ a .countLength;
-      slotsLength = b .slotsLength ∙ a .slotsLength;
-      kindOut = λ x z. b .kindOut x (omega (arith, sum x)) ∙ a .kindOut x (omega (arith, sum x));
-      flagsOut = λ x z. b .flagsOut x (omega (arith, sum x)) ∙ a .flagsOut x (omega (arith, sum x));
-      countOut = λ x z. b .countOut x (omega (arith, sum x)) ∙ a .countOut x (omega (arith, sum x));
-      slotsOut = λ x s t z. b .slotsOut x s t (omega (arith, sum x)) ∙ a .slotsOut x s t (omega (arith, sum x));
-      kindIn = λ x i. by-cases (ℕ-discrete (occ x l) 0) (λ z. b .kindOut x z ∙ a .kindIn x (omega (arith, sum x))) (λ n. b .kindIn x (omega arith));
-      flagsIn = λ x i. by-cases (ℕ-discrete (occ x l) 0) (λ z. b .flagsOut x z ∙ a .flagsIn x (omega (arith, sum x))) (λ n. b .flagsIn x (omega arith));
-      countIn = λ x i. by-cases (ℕ-discrete (occ x l) 0) (λ z. b .countOut x z ∙ a .countIn x (omega (arith, sum x))) (λ n. b .countIn x (omega arith));
-      slotsIn = λ x s t i. by-cases (ℕ-discrete (occ x l) 0) (λ z. b .slotsOut x s t z ∙ a .slotsIn x s t (omega (arith, sum x))) (λ n. b .slotsIn x s t (omega arith));
-      slotsOcc = λ y. omega (arith, a .slotsOcc y, b .slotsOcc y, heldBy-others h c l o (suc y));
-    }
-
-wiped-none : (h : Heap) → Wiped h h []
-unfolding heldBy
-wiped-none h = record {
-  roots = refl;
-  queue = refl;
-  control = refl;
-  kindLength = refl;
-  flagsLength = refl;
-  countLength = refl;
-  slotsLength = refl;
-  kindOut = λ x o. refl;
-  flagsOut = λ x o. refl;
-  countOut = λ x o. refl;
-  slotsOut = λ x s b o. refl;
-  kindIn = λ x i. absurd (omega (arith, occ-nil x));
-  flagsIn = λ x i. absurd (omega (arith, occ-nil x));
-  countIn = λ x i. absurd (omega (arith, occ-nil x));
-  slotsIn = λ x s b i. absurd (omega (arith, occ-nil x));
-  slotsOcc = λ y. omega arith;
-}
-
-pub wiped : (h : Heap) (l : List ℕ) → ((x : ℕ) → occ x l ≤ 1) → ((x : ℕ) → 1 ≤ occ x l → 8 * x + 8 ≤ length (h .slots)) → Wiped h (wipeAll h l) l
-unfolding wipeAll
-wiped h [] once inside = wiped-none h
-wiped h (c ∷ l) once inside =
-    let one : Wiped h (wipe h c) (c ∷ []) = wiped-one h c (inside c (omega (arith, occ-here c l))) in
-    wiped-then h _ c l (omega (arith, once c, occ-here c l)) one
-    (wiped (wipe h c) l (λ x. omega (arith, once x, occ-cons x c l)) (λ x b. omega (arith, one .slotsLength, inside x (omega (arith, occ-cons x c l)))))
 
 -- ---- the rescued
 
@@ -345,7 +230,7 @@ rescued-all h (c ∷ l) inside =
       queue = b .queue;
       control = b .control;
       flagsLength = b .flagsLength ∙ length-set (h .flags) c 1;
-      flagsOut = λ x o. b .flagsOut x (omega (arith, sum x)) ∙ getD-set-other (h .flags) c x 1 0 (not-only x c (omega (arith, sum x)));
+      flagsOut = λ x o. b .flagsOut x (omega (arith, sum x)) ∙ getD-set-other (h .flags) c x 1 0 (occ-absent x c (omega (arith, sum x)));
       flagsIn = λ x i. by-cases (ℕ-discrete (occ x l) 0)
           (λ z.
           let e : x ≡ c = occ-single x c (omega (arith, sum x)) in

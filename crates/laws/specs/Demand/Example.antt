@@ -5,7 +5,7 @@ use mathlib.Core.List.{List, [], _∷_}
 use mathlib.Core.Path.{refl}
 use lib.ListN.{replicate}
 use Rattle.rules.specs.Lists.{every, all, below, occ, distinct, select}
-use Rattle.rules.specs.Heap.{Heap, tables, slotsOf, fresh, setKind, setFlags, setCount, setSlot, setRoot, setRunning, setQueue, enqueue, wipe}
+use Rattle.rules.specs.Heap.{Heap, tables, slotsOf, fresh, setKind, setFlags, setCount, setSlot, setRoot, setRunning, setQueue, enqueue, plain, wipe}
 use Rattle.rules.specs.Check.{fits, cellOk, cellAt, refOk, entryOk, runningOk, refs, countOk, sound}
 use Rattle.rules.specs.Refusals.{Call, number, lowest, lowestFree, newOk, objectOk, conditions, isFresh, refusal}
 use Rattle.rules.specs.Refusals.Call.{FRESH, NEW, CLEAR, LOAD, STORE, COLLECT, START, FINISH}
@@ -81,7 +81,7 @@ events =
 -- FRESH done on the stale tables and then the list; and two calls beside it, FRESH on a used cell, and LOAD from a root that is too high
 pub computed :
     Did FRESH stale empty (answers 0 0 0 0) × Trace empty events × Did FRESH oneObject empty (answers 0 0 0 0) × Did (LOAD 0 64 0) empty empty (answers 3 0 0 0)
-unfolding every all below occ distinct select slotsOf fresh setKind setFlags setCount setSlot setRoot setRunning setQueue enqueue wipe fits cellOk
+unfolding every all below occ distinct select slotsOf fresh setKind setFlags setCount setSlot setRoot setRunning setQueue enqueue plain wipe fits cellOk
     cellAt refOk entryOk runningOk refs countOk sound number lowest lowestFree newOk objectOk conditions isFresh refusal start raise incref finalizable
     refzero lower decref decrefs withPending retire serve drain release mark markIf spreadFrom spread closure markFrom reachedMarks unreachedFinalizable
     enqueueAll keptMarks garbage lowerAll unlinkAll wipeAll rescued rescueAll swept collect refuse done finished allocate writeRoot writeSlot startRun

@@ -53,6 +53,9 @@ occ-one x y e = omega (arith, occ-same x y [] e, occ-nil x)
 pub occ-other : (x y : ℕ) → x ≢ y → occ x (y ∷ []) ≡ 0
 occ-other x y n = omega (arith, occ-there x y [] n, occ-nil x)
 
+pub occ-absent : (x y : ℕ) → occ x (y ∷ []) ≡ 0 → x ≢ y
+occ-absent x y z e = omega (arith, occ-one x y e)
+
 pub occ-single : (x y : ℕ) → 1 ≤ occ x (y ∷ []) → x ≡ y
 occ-single x y o = elim (ℕ-discrete x y) [ yes e ↦ e | no n ↦ absurd (omega (arith, occ-other x y n)) ]
 

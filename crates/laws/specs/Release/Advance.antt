@@ -5,16 +5,18 @@ use native.Mathlib.Decide.{ℕ-discrete}
 use native.Mathlib.Omega.{arith}
 use mathlib.Core.List.{List, [], _∷_, _++_, map, map-append, append-assoc, append-nil}
 use mathlib.Core.Bool.{Bool, true, false}
-use mathlib.Core.Logic.{_≢_}
 use mathlib.Core.Path.{_≡_, refl, sym, ap, _∙_}
 use lib.ListN.{length, getD, length-set, length-append, length-map}
 use lib.Seq.{getD-set-other, length-take-le}
 use Rattle.laws.specs.Lists.Tests.{none-of}
 use Rattle.rules.specs.Lists.{occ}
-use Rattle.rules.specs.Heap.{queued, running, kindOf, countOf, entries, setCount, setQueue, enqueue, wipe}
+use Rattle.rules.specs.Heap.{Heap, queued, running, kindOf, countOf, slotOf, entries, setCount, setQueue, enqueue, wipe}
 use Rattle.rules.specs.Release.{Work, decref, decrefs, lower, refzero, finalizable, withPending, retire}
-use Rattle.laws.specs.Lists.Tables.{set-here, zeros-in, zeros-out, apart}
-use Rattle.laws.specs.Lists.Occ.{occ-nil, occ-append, occ-one, occ-single, occ-length}
+use Rattle.rules.specs.Freeing.{zeroed}
+use Rattle.laws.specs.Lists.Tables.{set-here, zeros-in}
+use Rattle.laws.specs.Lists.Occ.{occ-nil, occ-append, occ-absent, occ-single, occ-length}
+use Rattle.laws.specs.Sound.But.{PlainSlots}
+use Rattle.laws.specs.Freeing.{wiped-out, wipe-plain}
 use Rattle.laws.specs.Release.Balance.{Balanced, Advance}
 use Rattle.laws.specs.Release.Queue.{push-entries}
 use Rattle.laws.specs.Release.Decref.{unqueued, in-range, decref-balanced}
@@ -163,21 +165,21 @@ decrefs-advance w serving done (r ∷ l) held b =
     (p .0 ++ q .0, advance-trans w (decref w r) (decrefs (decref w r) l) [] [] (p .0) (q .0) (p .1) (q .1))
 
 -- a used cell becomes all zeros
-pub retire-advance : (w : Work) (c : ℕ) → 1 ≤ kindOf (w .heap) c → Advance w (retire w c) (c ∷ []) []
-unfolding retire wipe
-retire-advance w c u =
-    let that : (d : ℕ) → occ d (c ∷ []) ≡ 0 → d ≢ c = λ d z e. omega (arith, occ-one d c e) in
+pub retire-advance : (w : Work) (c : ℕ) → PlainSlots (w .heap .kind) (w .heap .slots) → 1 ≤ kindOf (w .heap) c → Advance w (retire w c) (c ∷ []) []
+unfolding retire wipe zeroed
+retire-advance w c empty u =
     record {
       roots = refl;
       running = refl;
       size = length-set (w .heap .kind) c 0;
-      kind = λ d z. getD-set-other (w .heap .kind) c d 0 0 (that d z);
-      flags = λ d z. getD-set-other (w .heap .flags) c d 0 0 (that d z);
-      slots = λ d k s z. zeros-out 8 (w .heap .slots) (8 * c) (8 * d + k) (apart d c k s (that d z));
+      kind = λ d z. getD-set-other (w .heap .kind) c d 0 0 (occ-absent d c z);
+      flags = λ d z. getD-set-other (w .heap .flags) c d 0 0 (occ-absent d c z);
+      slots = λ d k s z. wiped-out (kindOf (w .heap) c) (w .heap .slots) c d k s (occ-absent d c z);
       used = λ d o. rw (occ-single d c o) u;
       noKind = λ d o. rw (occ-single d c o) (set-here (w .heap .kind) c);
       noFlags = λ d o. rw (occ-single d c o) (set-here (w .heap .flags) c);
-      noSlots = λ d k s o. rw (occ-single d c o) (zeros-in 8 (w .heap .slots) (8 * c) (8 * c + k) (omega arith) (omega arith));
+      noSlots = λ d k s o. rw (occ-single d c o)
+          (ap (λ (h : Heap). slotOf h c k) (wipe-plain (w .heap) c empty) ∙ zeros-in 8 (w .heap .slots) (8 * c) (8 * c + k) (omega arith) (omega arith));
       once = λ d. occ-length d (c ∷ []);
       freed = refl;
       entered = sym (append-nil _);

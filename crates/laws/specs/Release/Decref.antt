@@ -215,3 +215,10 @@ pub decrefs-balanced : (w : Work) (serving done l held : List ℕ)
 unfolding decrefs
 decrefs-balanced w serving done [] held b = b
 decrefs-balanced w serving done (r ∷ l) held b = decrefs-balanced (decref w r) serving done l held (decref-balanced w serving done r (l ++ held) b)
+
+-- references that are empty come off nothing
+pub decrefs-none : (w : Work) (l : List ℕ) → ((i : ℕ) → i < length l → getD l i 0 ≡ 0) → decrefs w l ≡ w
+unfolding decrefs decref
+decrefs-none w [] none = refl
+decrefs-none w (zero ∷ l) none = decrefs-none w l (λ i b. none (suc i) (omega arith))
+decrefs-none w (suc r ∷ l) none = absurd (omega (arith, none 0 (omega arith)))

@@ -5,12 +5,14 @@ use native.Mathlib.Omega.{arith}
 use mathlib.Core.List.{List, [], _∷_, _++_, append-assoc, append-nil}
 use mathlib.Core.Logic.{_≢_}
 use mathlib.Core.Path.{_≡_, refl, sym, ap, _∙_, subst, subst⁻¹}
-use lib.ListN.{length, getD, set, replicate, length-set, length-append}
-use lib.Seq.{sets, length-sets, getD-set-other}
-use Rattle.laws.specs.Sound.But.{refit}
+use lib.ListN.{length, getD, set, length-set, length-append}
+use lib.Seq.{getD-set-other}
+use Rattle.laws.specs.Sound.But.{refit, PlainSlots}
+use Rattle.laws.specs.Freeing.{wiped-length, wipe-plain, plain-kept}
 use Rattle.rules.specs.Lists.{occ}
-use Rattle.rules.specs.Heap.{kindOf, countOf, slotsOf, wipe}
+use Rattle.rules.specs.Heap.{Heap, kindOf, countOf, slotsOf, emptied, wipe}
 use Rattle.rules.specs.Release.{Work, decref, decrefs, withPending, retire, serve, drain, release}
+use Rattle.rules.specs.Freeing.{zeroed}
 use Rattle.laws.specs.Lists.Tables.{by-cell, inside, set-here, set-same}
 use Rattle.laws.specs.Lists.Occ.{occ-three, occ-nil, occ-here, occ-append, occ-cons, occ-length, occ-empty, occ-snoc-there, occ-one, occ-other, occ-cleared}
 use Rattle.laws.specs.Lists.Pigeonhole.{pigeonhole}
@@ -91,10 +93,6 @@ work-list w serving done held b =
 abbrev pub served : Work → ℕ → List ℕ → Work
 served w c rest = decrefs (withPending w rest) (slotsOf (w .heap .slots) c)
 
--- slots with cell c's eight all zeros
-abbrev pub emptied : List ℕ → ℕ → List ℕ
-emptied slots c = sets slots (8 * c) (replicate 8 0)
-
 served-frame : (w : Work) (c : ℕ) (rest : List ℕ) → Frame w (served w c rest)
 unfolding withPending
 served-frame w c rest =
@@ -126,23 +124,25 @@ module _ (w : Work) (done outside : List ℕ) (c : ℕ) (rest : List ℕ) (e : w
       ))
       (begin w done (s ++ outside) c rest e (d .balanced))
 
+  served-plain : PlainSlots (served w c rest .heap .kind) (served w c rest .heap .slots)
+  served-plain = let f : Frame w (served w c rest) = served-frame w c rest in rw (f .kind, f .slots) (d .plain)
+
   served-balanced : Balanced (served w c rest) (c ∷ []) done (emptied (w .heap .slots) c ++ outside)
   served-balanced = decrefs-balanced (withPending w rest) (c ∷ []) done (slotsOf (w .heap .slots) c) (emptied (w .heap .slots) c ++ outside) serve-begin
 
-  -- its count stays 0 while its slots come off
-  pub served-count : countOf (served w c rest .heap) c ≡ 0
-  served-count = served-balanced .dead c (omega (arith, occ-here c []))
-
   -- the cell is all zeros, and the next one's turn comes
   pub serve-draining : Draining (serve w c rest) (done ++ (c ∷ [])) outside
-  unfolding serve retire wipe
+  unfolding serve retire wipe zeroed
   serve-draining =
       let v : Work = served w c rest in
       let f : Frame w v = served-frame w c rest in
       record {
-        slots = omega (arith, length-sets (v .heap .slots) (8 * c) (replicate 8 0), length-set (v .heap .kind) c 0, ap length (f .slots), ap length (f .kind));
-        balanced = finish v done (emptied (v .heap .slots) c ++ outside) c
-            (subst⁻¹ (λ (l : List ℕ). Balanced v (c ∷ []) done (emptied l c ++ outside)) (f .slots) served-balanced);
+        slots = omega (arith, wiped-length (kindOf (v .heap) c) (v .heap .slots) c, length-set (v .heap .kind) c 0, ap length (f .slots), ap length (f .kind));
+        plain = plain-kept (v .heap) c served-plain;
+        balanced =
+            subst⁻¹ (λ (h : Heap). Balanced (retire v c) [] (done ++ (c ∷ [])) (h .slots ++ outside)) (wipe-plain (v .heap) c served-plain)
+            (finish v done (emptied (v .heap .slots) c ++ outside) c
+            (subst⁻¹ (λ (l : List ℕ). Balanced v (c ∷ []) done (emptied l c ++ outside)) (f .slots) served-balanced));
       }
 
   pub serve-advance : Advanced w (serve w c rest) (c ∷ [])
@@ -152,7 +152,7 @@ module _ (w : Work) (done outside : List ℕ) (c : ℕ) (rest : List ℕ) (e : w
       let q : Advanced (withPending w rest) (served w c rest) [] =
       decrefs-advance (withPending w rest) (c ∷ []) done (slotsOf (w .heap .slots) c) (emptied (w .heap .slots) c ++ outside) serve-begin in
       let r : Advance (served w c rest) (serve w c rest) (c ∷ []) [] =
-      retire-advance (served w c rest) c (omega (arith, ap (λ (l : List ℕ). getD l c 0) (f .kind), serve-used)) in (
+      retire-advance (served w c rest) c served-plain (omega (arith, ap (λ (l : List ℕ). getD l c 0) (f .kind), serve-used)) in (
         q .0 ++ [],
         advance-trans w (withPending w rest) (serve w c rest) [] (c ∷ []) [] (q .0 ++ []) (pending-advance w rest)
             (advance-trans (withPending w rest) (served w c rest) (serve w c rest) [] (c ∷ []) (q .0) [] (q .1) r),
@@ -250,6 +250,7 @@ decref-draining w r outside d =
     let f : Frame w (decref w r) = decref-frame w r in
     record {
       slots = omega (arith, ap length (f .slots), ap length (f .kind));
+      plain = rw (f .kind, f .slots) (d .plain);
       balanced = subst⁻¹ (λ (l : List ℕ). Balanced (decref w r) [] [] (l ++ outside)) (f .slots) (decref-balanced w [] [] r (w .heap .slots ++ outside) (release-due w r outside d));
     }
 
@@ -262,6 +263,6 @@ release-released w r outside s =
     record {
       cells = q .cells;
       joined = a .0 ++ q .joined;
-      settled = record { draining = record { slots = q .draining .slots; balanced = forget (release w r) (q .cells) _ (q .draining .balanced) }; empty = q .empty };
+      settled = record { draining = record { slots = q .draining .slots; plain = q .draining .plain; balanced = forget (release w r) (q .cells) _ (q .draining .balanced) }; empty = q .empty };
       advance = advance-trans w (decref w r) (release w r) [] (q .cells) (a .0) (q .joined) (a .1) (q .advance);
     }

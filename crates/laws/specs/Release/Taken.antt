@@ -26,6 +26,7 @@ sound-settled w extra e s =
       empty = e;
       draining = record {
         slots = s .slots;
+        plain = s .shaped .plainSlots;
         balanced = record {
           fit = s .fit;
           queue = s .queue;

@@ -45,13 +45,17 @@ pub record QueueOk (kind flags queue control : List ℕ) : Type 0 where
   pub wanting : (c : ℕ) → 1 ≤ occ (suc c) (entriesOf queue control) → getD flags c 0 ≡ 1
   pub rest : (i : ℕ) → getD control 0 0 ≤ i → getD queue i 0 ≡ 0
 
+-- of rule 2: strings and buffers have empty slots; of the tables kind and slots
+abbrev pub PlainSlots : List ℕ → List ℕ → Type 0
+PlainSlots kind slots = (c k : ℕ) → k < 8 → 2 ≤ getD kind c 0 → getD slots (8 * c + k) 0 ≡ 0
+
 -- rules 1 and 2, but for the counts; of the tables kind, flags and slots
 pub record Shaped (kind flags slots : List ℕ) : Type 0 where
   pub kinds : (c : ℕ) → getD kind c 0 ≤ 3
   pub freeFlags : (c : ℕ) → getD kind c 0 ≡ 0 → getD flags c 0 ≡ 0
   pub freeSlots : (c k : ℕ) → k < 8 → getD kind c 0 ≡ 0 → getD slots (8 * c + k) 0 ≡ 0
   pub plainFlags : (c : ℕ) → 2 ≤ getD kind c 0 → getD flags c 0 ≡ 0
-  pub plainSlots : (c k : ℕ) → k < 8 → 2 ≤ getD kind c 0 → getD slots (8 * c + k) 0 ≡ 0
+  pub plainSlots : PlainSlots kind slots
   pub objectFlags : (c : ℕ) → getD kind c 0 ≡ 1 → getD flags c 0 ≤ 3
   pub objectNotTwo : (c : ℕ) → getD kind c 0 ≡ 1 → getD flags c 0 ≢ 2
 

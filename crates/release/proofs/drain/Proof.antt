@@ -1,6 +1,7 @@
 -- `release::drain` meets its contract. The loop's invariant is `Serving`; the measure is the number of cells not yet freed. Assumes nothing.
 use Prim.Native.Nat.{_-_}
 use native.Mathlib.Omega.{arith}
+use mathlib.Core.Path.{_∙_}
 use Rattle.release.proofs.Serving.{Serving, serve-start, ahead, some-named, in-range, cell-stands, cell-due, serve-on, serve-end}
 use borrow.Author.Needs.{needs}
 use Rattle.release.proofs.drain.Statement.{statement}
@@ -72,68 +73,75 @@ returns c =
 
 decref-slots-requires : tie.Need-decref-slots-requires Inv-loop μ-loop
 decref-slots-requires c κs =
+    let cell = c .before .before .before .before .before .before .before .before .cell in
+    let of = c .before .before .before .before .before .before .before .before .before .before .of in
     let loop = c .before .before .before .before .before .before .before .before .before .before .before .before .before .loop in
     let loop-test = c .before .before .before .before .before .before .before .before .before .before .before .before .loop-test in
-    let cell = c .before .before .before .before .before .before .before .before .cell in
-    let is = rw (cell .given .1) at (c .before .before .before .before .before .before .before .before .before .before .of .ensures) in (
-      cell-stands _ _ _ _ _ _ _ _ _ _ _ _ _ _ _ _ _ (loop .inv) (loop-test .taken) (cell .given .0 .0 .0) (omega (arith, is .0)) .slots,
-      cell-due _ _ _ _ _ _ _ _ _ _ _ _ _ _ _ _ _ (loop .inv) (loop-test .taken) (cell .given .0 .0 .0) (omega (arith, is .0)),
-    )
+    let is = rw (cell .given .1) at (of .ensures) in
+    cell-due _ _ _ _ _ _ _ _ _ _ _ _ _ _ _ _ _ (loop .inv) (loop-test .taken) (cell .given .0 .0 .0) (omega (arith, is .0))
 
-wipe-requires : tie.Need-wipe-requires Inv-loop μ-loop
-wipe-requires c κs =
-    let loop =
+free-cell-requires : tie.Need-free-cell-requires Inv-loop μ-loop
+free-cell-requires c κs =
+    let cell =
     c .before .before .before .before .before .before .before .before .before .before .before .before .before .before .before .before .before .before
-    .before .before .before .before .before .before .before .loop in
-    let loop-test =
-    c .before .before .before .before .before .before .before .before .before .before .before .before .before .before .before .before .before .before
-    .before .before .before .before .before .before .loop-test in
-    let cell = c .before .before .before .before .before .before .before .before .before .before .before .before .before .before .before .before .before .before .before .before .cell in
+    .before .before .before .cell in
     let of =
     c .before .before .before .before .before .before .before .before .before .before .before .before .before .before .before .before .before .before
-    .before .before .before .before .of in
+    .before .before .before .before .before .of in
+    let loop =
+    c .before .before .before .before .before .before .before .before .before .before .before .before .before .before .before .before .before .before
+    .before .before .before .before .before .before .before .before .loop in
+    let loop-test =
+    c .before .before .before .before .before .before .before .before .before .before .before .before .before .before .before .before .before .before
+    .before .before .before .before .before .before .before .loop-test in
+    let decref-slots = c .before .before .before .before .before .before .before .before .before .before .before .before .decref-slots in
     let is = rw (cell .given .1) at (of .ensures) in
-    cell-stands _ _ _ _ _ _ _ _ _ _ _ _ _ _ _ _ _ (loop .inv) (loop-test .taken) _ (omega (arith, is .0))
+    cell-stands _ _ _ _ _ _ _ _ _ _ _ _ _ _ _ _ _ (loop .inv) (loop-test .taken) _ (omega (arith, is .0)) _ (decref-slots .kept .1 .1 .0)
 
 add-head : tie.Need-add-head Inv-loop μ-loop
 add-head c =
     let loop =
     c .before .before .before .before .before .before .before .before .before .before .before .before .before .before .before .before .before .before
-    .before .before .before .before .before .before .before .before .before .before .before .before .before .before .loop in
+    .before .before .before .before .before .before .before .before .before .before .before .before .before .before .before .before .before .loop in
     let loop-test =
     c .before .before .before .before .before .before .before .before .before .before .before .before .before .before .before .before .before .before
-    .before .before .before .before .before .before .before .before .before .before .before .before .before .loop-test in
+    .before .before .before .before .before .before .before .before .before .before .before .before .before .before .before .before .loop-test in
     omega (arith, loop .inv .bound, loop-test .taken)
 
 loop-less : tie.Need-loop-less Inv-loop μ-loop
 loop-less c =
     let loop =
     c .before .before .before .before .before .before .before .before .before .before .before .before .before .before .before .before .before .before
-    .before .before .before .before .before .before .before .before .before .before .before .before .before .before .loop in
+    .before .before .before .before .before .before .before .before .before .before .before .before .before .before .before .before .before .loop in
     let loop-test =
     c .before .before .before .before .before .before .before .before .before .before .before .before .before .before .before .before .before .before
-    .before .before .before .before .before .before .before .before .before .before .before .before .before .loop-test in
+    .before .before .before .before .before .before .before .before .before .before .before .before .before .before .before .before .loop-test in
     omega (arith, loop .inv .bound, loop-test .taken)
 
 loop-again : tie.Need-loop-again Inv-loop μ-loop
 loop-again c =
-    let loop =
-    c .before .before .before .before .before .before .before .before .before .before .before .before .before .before .before .before .before .before
-    .before .before .before .before .before .before .before .before .before .before .before .before .before .before .loop in
-    let loop-test =
-    c .before .before .before .before .before .before .before .before .before .before .before .before .before .before .before .before .before .before
-    .before .before .before .before .before .before .before .before .before .before .before .before .before .loop-test in
     let cell =
     c .before .before .before .before .before .before .before .before .before .before .before .before .before .before .before .before .before .before
-    .before .before .before .before .before .before .before .before .before .cell in
+    .before .before .before .before .before .before .before .before .before .before .before .before .cell in
     let of =
     c .before .before .before .before .before .before .before .before .before .before .before .before .before .before .before .before .before .before
-    .before .before .before .before .before .before .before .before .before .before .before .of in
+    .before .before .before .before .before .before .before .before .before .before .before .before .before .before .of in
+    let decref-slots =
+    c .before .before .before .before .before .before .before .before .before .before .before .before .before .before .before .before .before .before
+    .before .before .before .decref-slots in
+    let free-cell = c .before .before .before .before .before .before .before .before .free-cell in
+    let loop =
+    c .before .before .before .before .before .before .before .before .before .before .before .before .before .before .before .before .before .before
+    .before .before .before .before .before .before .before .before .before .before .before .before .before .before .before .before .before .loop in
+    let loop-test =
+    c .before .before .before .before .before .before .before .before .before .before .before .before .before .before .before .before .before .before
+    .before .before .before .before .before .before .before .before .before .before .before .before .before .before .before .before .loop-test in
     let is = rw (cell .given .1) at (of .ensures) in
-    let d = c .before .before .before .before .before .before .before .before .before .before .before .before .before .before .before .before .before .before .decref-slots in
-    let z = c .before .before .before .before .before .before .wipe in
-    serve-on _ _ _ _ _ _ _ _ _ _ _ _ _ _ _ _ _ (loop .inv) (loop-test .taken) _ (omega (arith, is .0)) _ _ _ _ _ (d .ensures) _ _ _ (z .ensures) (d .kept .1 .1 .1 .1 .1 .1 .0)
-    (z .kept .0) (z .kept .1 .0) (d .kept .1 .1 .0) (z .kept .1 .1 .0) (d .kept .1 .1 .1 .1 .0) (d .kept .1 .1 .1 .1 .1 .0)
+    let d = decref-slots in
+    let z = free-cell in
+    serve-on _ _ _ _ _ _ _ _ _ _ _ _ _ _ _ _ _ (loop .inv) (loop-test .taken) _ (omega (arith, is .0))
+    _ _ _ _ _ (d .ensures) _ _ _ _ (z .ensures) (d .kept .1 .1 .1 .1 .1 .1 .0)
+    (z .kept .0) (z .kept .1 .0) (z .kept .1 .1 .0 ∙ d .kept .1 .1 .0) (z .kept .1 .1 .1 .0) (d .kept .1 .1 .1 .1 .0) (d .kept .1 .1 .1 .1 .1 .0)
 
 cast-result-2 : tie.Need-cast-result-2 Inv-loop μ-loop
 cast-result-2 c = omega (arith, ahead _ _ _ _ _ _ _ _ _ _ _ _ _ _ _ _ _ (c .before .loop .inv), c .before .loop .inv .bound)
@@ -186,7 +194,7 @@ drain-spec =
     same-length-7
     returns
     decref-slots-requires
-    wipe-requires
+    free-cell-requires
     add-head
     loop-less
     loop-again

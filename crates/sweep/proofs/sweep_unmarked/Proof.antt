@@ -8,7 +8,7 @@ unlink-unmarked-requires : tie.Need-unlink-unmarked-requires
 unlink-unmarked-requires c κs =
     let entry = c .before .before .before .before .before .before .before .before in (
       (sym (entry .pre .0 .count-size), entry .pre .1 .0 .0 ∙ sym (entry .pre .0 .count-size)),
-      rw (entry .pre .0 .count-size) (record { fit = entry .pre .0 .slots-size; within = entry .pre .1 .1 }),
+      (rw (entry .pre .0 .count-size) (record { fit = entry .pre .0 .slots-size; within = entry .pre .1 .1 .0 }), entry .pre .1 .1 .1),
     )
 
 wipe-unmarked-requires : tie.Need-wipe-unmarked-requires

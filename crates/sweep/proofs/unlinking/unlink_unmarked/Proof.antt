@@ -44,7 +44,7 @@ unlink-cell-requires c κs =
     let cell = c .before .before .cell .given in
     let is = rw (cell .1) at (of .ensures) in
     let here : cell .0 .0 .0 ≡ loop .c = omega arith in
-    ((omega arith, omega arith), (rw (loop .inv .1) (entry .pre .1), omega arith))
+    ((omega arith, omega arith), (rw (loop .inv .1) (entry .pre .1 .0), (omega arith, entry .pre .1 .1)))
 
 add-c : tie.Need-add-c Inv-loop μ-loop
 add-c c = omega arith

@@ -1,22 +1,33 @@
--- `sweep::wiping::clear_slots` meets its contract: the first `k` slots are 0. Assumes nothing.
+-- `freeing::empty_slots` meets its contract: the first `k` slots are 0. Assumes nothing.
 use Prim.Native.Nat.{ℕ, _+_, _*_, _-_, _≤_}
 use native.Mathlib.Omega.{arith}
-use mathlib.Core.Path.{_≡_, refl, sym, ap, _∙_}
-use lib.ListN.{length, set, replicate, length-set}
-use lib.Dec.{lit≤}
-use mathlib.Core.List.{List}
 use native.Mathlib.Numerals.{add-one}
+use mathlib.Core.List.{List}
+use mathlib.Core.Path.{_≡_, refl, sym, ap, _∙_}
+use lib.Dec.{lit≤}
+use lib.ListN.{length, set, replicate, length-set}
 use lib.Seq.{sets}
 use Rattle.laws.specs.Lists.Tables.{zeros-more}
+use Rattle.laws.specs.Freeing.{slots-spared, slots-emptied}
 use borrow.Author.Needs.{needs}
-use Rattle.sweep.proofs.wiping.clear_slots.Statement.{statement}
-use Rattle.sweep.proofs.wiping.clear_slots.Tie as tie
+use Rattle.freeing.proofs.empty_slots.Statement.{statement}
+use Rattle.freeing.proofs.empty_slots.Tie as tie
 
 abbrev Inv-loop : tie.InvT-loop
-Inv-loop slots₀ cell k₀ slots k = (k ≤ 8) × (length slots ≡ length slots₀) × (slots ≡ sets slots₀ (8 * cell .0) (replicate k 0))
+Inv-loop slots₀ cell kind k₀ slots k = (k ≤ 8) × (length slots ≡ length slots₀) × (slots ≡ sets slots₀ (8 * cell .0) (replicate k 0))
 
 abbrev μ-loop : tie.MeasureT-loop
-μ-loop slots₀ cell k₀ slots k = 8 - k
+μ-loop slots₀ cell kind k₀ slots k = 8 - k
+
+is-plain-requires : tie.Need-is-plain-requires Inv-loop μ-loop
+is-plain-requires c κs = search needs
+
+returns : tie.Need-returns Inv-loop μ-loop
+returns c =
+    let entry = c .before .before .before in
+    let is-plain = c .before .is-plain in
+    let if1 = c .if1 in
+    sym (slots-spared _ _ (entry .args .cell .0) (sym (is-plain .ensures) ∙ if1 .taken))
 
 loop-holds : tie.Need-loop-holds Inv-loop μ-loop
 loop-holds c = (lit≤ tt, refl, refl)
@@ -44,10 +55,10 @@ loop-less c = search needs
 
 loop-again : tie.Need-loop-again Inv-loop μ-loop
 loop-again c =
-    let entry = c .before .before .before .before in
-    let first = 8 * entry .args .cell .0 in
+    let entry = c .before .before .before .before .before .before in
     let loop = c .before .before .loop in
-    let index = c .index in (
+    let index = c .index in
+    let first = 8 * entry .args .cell .0 in (
       omega arith,
       length-set (loop .slots) (8 * index .result + loop .k) 0 ∙ loop .inv .1,
       ap (λ (i : ℕ). set (loop .slots) (8 * i + loop .k) 0) (index .ensures)
@@ -59,18 +70,25 @@ loop-again c =
 same-length : tie.Need-same-length Inv-loop μ-loop
 same-length c = c .before .loop .inv .1
 
-returns : tie.Need-returns Inv-loop μ-loop
-returns c =
-    let entry = c .before .before .before in
-    let all : c .before .loop .k ≡ 8 = omega arith in
-    c .before .loop .inv .2 ∙ ap (λ (j : ℕ). sets (entry .args .slots .now) (8 * entry .args .cell .0) (replicate j 0)) all
+returns-2 : tie.Need-returns-2 Inv-loop μ-loop
+returns-2 c =
+    let entry = c .before .before .before .before .before in
+    let loop = c .before .loop in
+    let is-plain = c .before .before .before .is-plain in
+    let if1 = c .before .before .if1 in
+    let cell = entry .args .cell .0 in
+    let all : loop .k ≡ 8 = omega arith in
+    loop .inv .2 ∙ ap (λ (j : ℕ). sets (entry .args .slots .now) (8 * cell) (replicate j 0)) all
+    ∙ sym (slots-emptied _ _ cell (sym (is-plain .ensures) ∙ if1 .left))
 
-pub clear-slots-spec : {M : Type 1} → statement M
-clear-slots-spec =
+pub empty-slots-spec : {M : Type 1} → statement M
+empty-slots-spec =
     tie.close
     (tie.spec
     Inv-loop
     μ-loop
+    is-plain-requires
+    returns
     loop-holds
     index-requires
     mul-slots
@@ -81,4 +99,4 @@ clear-slots-spec =
     loop-less
     loop-again
     same-length
-    returns)
+    returns-2)
