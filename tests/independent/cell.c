@@ -14,12 +14,20 @@ uint16_t *slot_of(const struct heap *heap, size_t cell, size_t slot)
     return &heap->slots.at[SLOTS * cell + slot];
 }
 
-/* "then the cell is all zeros" */
-void blank(struct heap *heap, size_t cell)
+static void empty_slots(struct heap *heap, size_t cell)
 {
+    for (size_t slot = 0; slot < SLOTS; slot++)
+        *slot_of(heap, cell, slot) = 0;
+}
+
+/* "then the cell is all zeros". Q-3 of document 02: "the freeing step should write no slot of a string or buffer: on any
+   tables they stay as they were". The kind that decides is the one with which the step begins. */
+void free_cell(struct heap *heap, size_t cell)
+{
+    uint16_t kind = heap->kind.at[cell];
     heap->kind.at[cell] = FREE;
     heap->flags.at[cell] = 0;
     heap->count.at[cell] = 0;
-    for (size_t slot = 0; slot < SLOTS; slot++)
-        *slot_of(heap, cell, slot) = 0;
+    if (kind != STRING && kind != BUFFER)
+        empty_slots(heap, cell);
 }

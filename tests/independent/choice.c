@@ -1,9 +1,7 @@
 #include "choice.h"
 
-#include "coverage.h"
+#include "noting.h"
 #include "random.h"
-
-#include <string.h>
 
 static const unsigned weights[MOODS][OPS] = {
     [FILLING] = { [NEW] = 38, [CLEAR] = 8, [COPY] = 8, [LOAD] = 6, [STORE] = 34, [COLLECT] = 2, [START] = 2, [FINISH] = 2 },
@@ -31,6 +29,11 @@ static size_t any_root(const struct heap *heap)
 static bool holds_nothing(const struct heap *heap, size_t root)
 {
     return heap->roots.at[root] == 0;
+}
+
+static bool holds_something(const struct heap *heap, size_t root)
+{
+    return heap->roots.at[root] != 0;
 }
 
 static bool holds_object(const struct heap *heap, size_t root)
@@ -107,26 +110,6 @@ static void aim_at_running_root(struct wish *wish, const struct heap *heap)
         wish->arg[at] = heap->control.at[RUNNING] - 1;
 }
 
-static void note_finish(const struct heap *heap)
-{
-    uint16_t running = heap->control.at[RUNNING], head = heap->queue.at[0];
-    if (running == 0)
-        return;
-    uint16_t held = heap->roots.at[running - 1];
-    if (held != head)
-        coverage_landmark(held == 0 ? FINISH_WITH_EMPTY_ROOT : FINISH_WITH_OTHER_IN_ROOT);
-    if (heap->count.at[head - 1] > 1 + (held == head))
-        coverage_landmark(FINISH_SURVIVED);
-}
-
-static void note_situation(enum op op, const struct heap *heap)
-{
-    if (op == FINISH)
-        note_finish(heap);
-    if (heap->control.at[LENGTH] == heap->kind.len)
-        coverage_landmark(QUEUE_FULL);
-}
-
 struct wish knowing_wish(const struct heap *heap, enum mood mood)
 {
     enum op op = some_op(mood);
@@ -139,49 +122,40 @@ struct wish knowing_wish(const struct heap *heap, enum mood mood)
     return wish;
 }
 
-/* Whether a cell that was finalised before the call has these flags after it. */
-static bool finalised_became(const uint16_t *flags_before, const struct heap *heap, uint16_t flags)
-{
-    for (size_t cell = 0; cell < heap->kind.len; cell++)
-        if (flags_before[cell] == (FINALIZER | FINALISED) && heap->flags.at[cell] == flags)
-            return true;
-    return false;
-}
-
-static void note_collect(bool running, bool queues, bool rescues, bool postpones)
-{
-    if (running)
-        coverage_landmark(COLLECT_WHILE_RUNNING);
-    if (rescues)
-        coverage_landmark(COLLECT_RESCUES);
-    if (rescues && queues)
-        coverage_landmark(COLLECT_RESCUES_AND_QUEUES);
-    if (postpones)
-        coverage_landmark(COLLECT_POSTPONES_RESCUE);
-}
-
-/* Q-2: "if the queue held anything when COLLECT began, no flags 3 become 1 in that COLLECT." If it held nothing, all of them
-   do: a finalised cell that COLLECT doesn't free was marked. */
-void knowing_collect(struct pair *pair)
-{
-    const struct heap *heap = &pair->ours;
-    bool running = heap->control.at[RUNNING] != 0, held_anything = heap->control.at[LENGTH] != 0;
-    uint16_t before[CELLS_MAX];
-    memcpy(before, heap->flags.at, heap->flags.len * sizeof *before);
-    bool queues = pair_call(pair, COLLECT, 0, 0, 0).queued != 0;
-    bool rescues = finalised_became(before, heap, FINALIZER), postpones = finalised_became(before, heap, FINALIZER | FINALISED);
-    demand(!(held_anything ? rescues : postpones), "the queue decides whether COLLECT rescues");
-    note_collect(running, queues, rescues, postpones);
-}
-
 void knowing_call(struct pair *pair, enum mood mood)
 {
     struct wish wish = knowing_wish(&pair->ours, mood);
-    note_situation(wish.op, &pair->ours);
-    if (wish.op == COLLECT)
-        knowing_collect(pair);
-    else
-        pair_call(pair, wish.op, wish.arg[0], wish.arg[1], wish.arg[2]);
+    noted_call(pair, wish.op, wish.arg[0], wish.arg[1], wish.arg[2]);
+}
+
+static void fill_slots(struct pair *pair, size_t object_root, size_t from_root)
+{
+    for (size_t slot = 0; slot < SLOTS; slot++)
+        noted_call(pair, STORE, object_root, slot, from_root);
+}
+
+/* What holds itself is left to COLLECT. */
+static void clear_holder(struct pair *pair, size_t object_root)
+{
+    if (chance(50))
+        noted_call(pair, STORE, object_root, any_slot(), object_root);
+    noted_call(pair, CLEAR, object_root, 0, 0);
+}
+
+/* Single calls seldom leave a cell that a slot alone holds, and hardly ever an object whose slots are all full. The holder
+   loses its root before other calls give it more references. */
+void knowing_holder(struct pair *pair)
+{
+    const struct heap *heap = &pair->ours;
+    enum kind kind = chance(50) ? OBJECT : STRING + below(2);
+    size_t root = root_that(heap, holds_nothing), holder = root_that(heap, holds_object);
+    size_t other = root_that(heap, holds_something);
+    noted_call(pair, NEW, root, kind, kind == OBJECT && chance(20));
+    if (kind == OBJECT)
+        fill_slots(pair, root, other);
+    noted_call(pair, STORE, holder, any_slot(), root);
+    noted_call(pair, CLEAR, root, 0, 0);
+    clear_holder(pair, holder);
 }
 
 static size_t blind_number(void)

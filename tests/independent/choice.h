@@ -16,8 +16,8 @@ struct wish {
 struct wish knowing_wish(const struct heap *heap, enum mood mood);
 void knowing_call(struct pair *pair, enum mood mood);
 
-/* COLLECT on a sound heap; what it does with finalised cells is noted. */
-void knowing_collect(struct pair *pair);
+/* Calls that make a cell which a slot alone holds, and then CLEAR a root of its holder, most of the time. */
+void knowing_holder(struct pair *pair);
 
 /* A call on tables that may be damaged: arguments are in range or wild, and nothing is followed. */
 void blind_call(struct pair *pair, enum op op);

@@ -104,7 +104,7 @@ static void sweep_cells(struct heap *heap, const struct marks *marks)
 {
     for (size_t cell = 0; cell < heap->kind.len; cell++)
         if (swept(heap, marks, cell))
-            blank(heap, cell);
+            free_cell(heap, cell);
 }
 
 /* "Each marked cell with flags 3 gets flags 1 again: it was rescued." */

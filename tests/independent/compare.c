@@ -20,6 +20,9 @@ int main(int argc, char **argv)
     corners();
     chains();
     trees();
+    baskets();
+    again();
+    freeing();
     lists();
     noise();
     bits();

@@ -31,11 +31,7 @@ static void finish_corner(const struct step *steps)
 /* Calls on tables that are made directly, and are sound. */
 static void made_corner(const char *part, size_t cells, void (*make)(struct heap *), const struct step *steps)
 {
-    pair_sequence(part);
-    struct pair pair = pair_of(cells);
-    make(&pair.ours);
-    pair_share(&pair);
-    demand(pair_call(&pair, START, ROOTS, 0, 0).refused == NUMBER, "the tables made are sound");
+    struct pair pair = pair_made(part, cells, make);
     play(&pair, steps);
     pair_free(&pair);
 }

@@ -42,7 +42,7 @@ static void serve(struct run *run, size_t cell)
 {
     for (size_t slot = 0; slot < SLOTS; slot++)
         decref(run, *slot_of(run->heap, cell, slot));
-    blank(run->heap, cell);
+    free_cell(run->heap, cell);
 }
 
 /* "The work list is served oldest first ... This ends within the call." */

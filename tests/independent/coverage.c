@@ -9,6 +9,12 @@ static const char *const landmark_names[LANDMARKS] = {
     [COLLECT_RESCUES] = "COLLECT that rescues a finalised cell",
     [COLLECT_RESCUES_AND_QUEUES] = "COLLECT that rescues a finalised cell and queues others",
     [COLLECT_POSTPONES_RESCUE] = "COLLECT that leaves a finalised cell so, because of the queue",
+    [CASCADE_FREES_STRING] = "a cascade that frees a string with its holder",
+    [CASCADE_FREES_BUFFER] = "a cascade that frees a buffer with its holder",
+    [CASCADE_FREES_FULL_OBJECT] = "a cascade that frees an object with eight full slots with its holder",
+    [COLLECT_FREES_STRING] = "COLLECT that frees a string",
+    [COLLECT_FREES_BUFFER] = "COLLECT that frees a buffer",
+    [COLLECT_FREES_FULL_OBJECT] = "COLLECT that frees an object with eight full slots",
     [FINISH_WITH_OTHER_IN_ROOT] = "FINISH with another cell in the running root",
     [FINISH_WITH_EMPTY_ROOT] = "FINISH with an empty running root",
     [FINISH_SURVIVED] = "FINISH on a cell that something else holds",
@@ -55,10 +61,12 @@ static const unsigned queue_at_least[OPS] = {
     [CLEAR] = 33, [COPY] = 1, [LOAD] = 1, [STORE] = 1, [COLLECT] = 257, [FINISH] = 2,
 };
 
-/* A landmark has to be met more often than so. Those of Q-2 count random calls alone, so that a slip there shows in many of
-   them. */
+/* A landmark has to be met more often than so. Those of Q-2 and Q-3 count random calls alone, so that a slip there shows in
+   many of them. */
 static const unsigned long more_often_than[LANDMARKS] = {
     [COLLECT_RESCUES] = 100, [COLLECT_RESCUES_AND_QUEUES] = 100, [COLLECT_POSTPONES_RESCUE] = 100,
+    [CASCADE_FREES_STRING] = 100, [CASCADE_FREES_BUFFER] = 100, [CASCADE_FREES_FULL_OBJECT] = 100,
+    [COLLECT_FREES_STRING] = 100, [COLLECT_FREES_BUFFER] = 100, [COLLECT_FREES_FULL_OBJECT] = 100,
 };
 
 static void raise_to(unsigned *most, unsigned number)

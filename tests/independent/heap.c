@@ -129,11 +129,14 @@ static void zero(const struct table *table)
     memset(table->at, 0, table->len * sizeof *table->at);
 }
 
-/* "it sets every entry to 0, whatever stood there, and then answers refusal 0, freed 0, queued 0, cell 0" */
+/* "it sets every entry to 0, whatever stood there, and then answers refusal 0, freed 0, queued 0, cell 0". This is not the
+   freeing step: the slots of strings become 0 too. */
 static struct answer fresh(struct heap *heap)
 {
-    for (size_t cell = 0; cell < heap->kind.len; cell++)
-        blank(heap, cell);
+    zero(&heap->kind);
+    zero(&heap->flags);
+    zero(&heap->count);
+    zero(&heap->slots);
     zero(&heap->roots);
     zero(&heap->queue);
     zero(&heap->control);

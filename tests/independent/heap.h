@@ -1,5 +1,5 @@
-/* The script heap of document 01, with Q-2 of document 02, written from these documents alone and as plainly as they allow,
-   to be compared with the heap under test. Speed is no aim here: each rule stands in a function of its own. */
+/* The script heap of document 01, with Q-2 and Q-3 of document 02, written from these documents alone and as plainly as
+   they allow, to be compared with the heap under test. Speed is no aim here: each rule stands in a function of its own. */
 #ifndef HEAP_H
 #define HEAP_H
 

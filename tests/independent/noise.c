@@ -4,6 +4,7 @@
 #include "choice.h"
 #include "coverage.h"
 #include "made.h"
+#include "noting.h"
 #include "random.h"
 
 enum { CALLS = 12 }; /* after a first COLLECT, or at once */
@@ -16,14 +17,10 @@ static void change_an_entry(struct heap *heap)
 
 static void sound_tables(size_t cells, void (*make)(struct heap *))
 {
-    pair_sequence("sound tables");
-    struct pair pair = pair_of(cells);
+    struct pair pair = pair_made("sound tables", cells, make);
     enum mood mood = below(MOODS);
-    make(&pair.ours);
-    pair_share(&pair);
-    demand(pair_call(&pair, CLEAR, ROOTS, 0, 0).refused == NUMBER, "the tables drawn are sound");
     if (chance(50))
-        knowing_collect(&pair);
+        noted_call(&pair, COLLECT, 0, 0, 0);
     for (size_t i = 0; i < CALLS; i++)
         knowing_call(&pair, mood);
     pair_free(&pair);

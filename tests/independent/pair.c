@@ -94,6 +94,16 @@ void demand(bool holds, const char *what)
     exit(1);
 }
 
+struct pair pair_made(const char *part, size_t n, void (*make)(struct heap *))
+{
+    pair_sequence(part);
+    struct pair pair = pair_of(n);
+    make(&pair.ours);
+    pair_share(&pair);
+    demand(pair_call(&pair, START, ROOTS, 0, 0).refused == NUMBER, "the tables made are sound");
+    return pair;
+}
+
 static void print_answer(const char *who, struct answer answer)
 {
     printf("  %s answers refused %u, freed %u, queued %u, cell %u\n", who, answer.refused, answer.freed, answer.queued, answer.cell);

@@ -32,6 +32,9 @@ void pair_free(struct pair *pair);
 /* Hands the tables of `ours`, as somebody has written them, to `theirs` too. */
 void pair_share(struct pair *pair);
 
+/* A pair of n cells on tables that are made directly; they have to be sound. */
+struct pair pair_made(const char *part, size_t n, void (*make)(struct heap *));
+
 /* What differs between the tables, or what is written outside them, in words; null if nothing. */
 const char *pair_difference(struct pair *pair);
 

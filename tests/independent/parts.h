@@ -1,4 +1,4 @@
-/* What the files of the independent heap share among themselves. */
+/* What the files of the independent heap share among themselves, and with the suite of the freeing step. */
 #ifndef PARTS_H
 #define PARTS_H
 
@@ -27,10 +27,10 @@ bool sound(const struct heap *heap);
 /* refusal.c: the lowest refusal number whose case is given, or DONE. */
 enum refusal refusal(const struct request *request);
 
-/* cell.c: single cells. */
+/* cell.c: single cells, and the freeing step. */
 size_t lowest_free(const struct heap *heap);
 uint16_t *slot_of(const struct heap *heap, size_t cell, size_t slot);
-void blank(struct heap *heap, size_t cell);
+void free_cell(struct heap *heap, size_t cell);
 
 /* count.c: "Taking off" and its opposite. */
 void incref(struct heap *heap, uint16_t ref);

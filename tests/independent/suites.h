@@ -6,6 +6,8 @@ void book(void);    /* the marked examples, K1 to K12 of document 01 and K13 to 
 void corners(void); /* situations that random lists seldom meet */
 void chains(void);  /* chains and rings of every length */
 void trees(void);   /* trees with finalizers */
+void baskets(void); /* objects that are freed with the strings and buffers they hold */
+void again(void);   /* freed cells used again as another kind */
 void numbers(void); /* numbers up to the largest in every place of every call */
 void damage(void);  /* a sound heap with a single clause broken */
 void lengths(void); /* tables whose lengths don't fit */
@@ -13,5 +15,6 @@ void lists(void);   /* long random lists of calls */
 void noise(void);   /* random tables, sound and not */
 void bits(void);    /* lines that arrive in bits, cut in every way */
 void readers(void); /* readers with any numbers in them */
+void freeing(void); /* the freeing step of the independent heap alone, on any tables */
 
 #endif

@@ -1,0 +1,69 @@
+#include "freed.h"
+
+#include "coverage.h"
+
+#include <string.h>
+
+/* What the landmarks tell apart among freed cells. */
+enum sort { A_STRING, A_BUFFER, A_FULL_OBJECT, SORTS, OTHER = SORTS };
+
+static const enum landmark by_cascade[SORTS] = { CASCADE_FREES_STRING, CASCADE_FREES_BUFFER, CASCADE_FREES_FULL_OBJECT };
+static const enum landmark by_collect[SORTS] = { COLLECT_FREES_STRING, COLLECT_FREES_BUFFER, COLLECT_FREES_FULL_OBJECT };
+
+void before_call(struct before *before, const struct heap *heap)
+{
+    memcpy(before->kind, heap->kind.at, heap->kind.len * sizeof *before->kind);
+    memcpy(before->slots, heap->slots.at, heap->slots.len * sizeof *before->slots);
+}
+
+static bool was_freed(const struct before *before, const struct heap *heap, size_t cell)
+{
+    return before->kind[cell] != FREE && heap->kind.at[cell] == FREE;
+}
+
+static bool all_full(const uint16_t slots[SLOTS])
+{
+    for (size_t slot = 0; slot < SLOTS; slot++)
+        if (slots[slot] == 0)
+            return false;
+    return true;
+}
+
+static enum sort sort_of(const struct before *before, size_t cell)
+{
+    switch (before->kind[cell]) {
+    case STRING:
+        return A_STRING;
+    case BUFFER:
+        return A_BUFFER;
+    default:
+        return all_full(&before->slots[SLOTS * cell]) ? A_FULL_OBJECT : OTHER;
+    }
+}
+
+/* Which cells a freed one held; no freed cell's slots are written by the call before it is freed. */
+static void find_held(bool held[CELLS_MAX], const struct before *before, const struct heap *heap)
+{
+    for (size_t i = 0; i < heap->slots.len; i++)
+        if (before->slots[i] != 0 && was_freed(before, heap, i / SLOTS))
+            held[before->slots[i] - 1] = true;
+}
+
+/* In a sweep every freed cell counts; elsewhere those that a cell freed by the same call held. */
+static void find_sorts(bool met[SORTS + 1], const struct before *before, const struct heap *heap, enum op op)
+{
+    bool held[CELLS_MAX] = { false };
+    find_held(held, before, heap);
+    for (size_t cell = 0; cell < heap->kind.len; cell++)
+        if (was_freed(before, heap, cell) && (op == COLLECT || held[cell]))
+            met[sort_of(before, cell)] = true;
+}
+
+void note_freed(const struct before *before, const struct heap *heap, enum op op)
+{
+    bool met[SORTS + 1] = { false };
+    find_sorts(met, before, heap, op);
+    for (int sort = 0; sort < SORTS; sort++)
+        if (met[sort])
+            coverage_landmark(op == COLLECT ? by_collect[sort] : by_cascade[sort]);
+}
