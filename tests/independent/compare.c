@@ -16,16 +16,16 @@ int main(int argc, char **argv)
     book();
     numbers();
     damage();
+    freeing();
     lengths();
     corners();
     chains();
     trees();
-    baskets();
-    again();
-    freeing();
     lists();
     noise();
     bits();
     readers();
+    baskets();
+    again();
     return coverage_report() ? 0 : 1;
 }
