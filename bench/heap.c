@@ -115,8 +115,8 @@ static void decref(heap *h, worklist *w, unsigned r)
 
 static inline void empty_slots(uint16_t *s) { memset(s, 0, VEK_SLOTS * sizeof *s); }
 
-/* A cell whose slots are empty becomes free. Only objects use slots: the callers empty theirs. */
-static inline void free_cell(heap *h, size_t c)
+/* What a freed cell has besides slots. Only objects use those: where cells are freed, theirs are emptied. */
+static inline void zero_entries(heap *h, size_t c)
 {
     h->kind[c] = 0;
     h->flags[c] = 0;
@@ -144,7 +144,7 @@ static unsigned release(heap *h, unsigned r)
                 decref(h, &w, s[i]);
             empty_slots(s);
         }
-        free_cell(h, c);
+        zero_entries(h, c);
     }
     return head;
 }
@@ -226,7 +226,7 @@ static vek_answer collect(heap *h)
         if (marks[c] == UNMARKED && h->kind[c]) {
             if (h->kind[c] == VEK_OBJECT)
                 empty_slots(h->slots + VEK_SLOTS * c);
-            free_cell(h, c);
+            zero_entries(h, c);
             freed++;
         }
     if (old == 0)

@@ -1,6 +1,7 @@
 #!/usr/bin/env python3
 """Compares the heap, its reading of lines and the program under test with an independent implementation of document 01 and of
-Q-1 to Q-3 in document 02, and shows by wrong edits of the independent one that the comparison sees each of them.
+Q-1 to Q-3 in document 02, and shows by wrong edits of the independent one that the comparison sees each of them, or, where calls refuse the tables
+that would show it, the suite of the freeing step alone.
 
 The last line printed is 'N passed, M failed'.
 """

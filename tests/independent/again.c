@@ -6,8 +6,7 @@
 /* Which root is for what, besides those of the objects made. */
 enum { AGAIN = NO_BASKET, READ, NOTHING, OTHERS };
 
-/* What a cell is besides an object, and the root whose cell stands in all slots of the object. An object that holds itself is
-   left to COLLECT, any other one is freed by CLEAR. */
+/* What a cell is besides an object, and the root whose cell stands in all slots of the object: another object's, or its own. */
 struct use {
     enum kind kind;
     size_t stored;
@@ -47,11 +46,10 @@ static void fill_slots(struct pair *pair, size_t stored)
     pair_call(pair, CLEAR, READ, 0, 0);
 }
 
-static void free_object(struct pair *pair)
+static void free_object(struct pair *pair, bool holds_itself)
 {
-    size_t by_clear = pair_call(pair, CLEAR, AGAIN, 0, 0).freed;
-    size_t by_collect = pair_call(pair, COLLECT, 0, 0, 0).freed;
-    demand(by_clear + by_collect == 1, "the object is freed by CLEAR or by COLLECT");
+    demand(pair_call(pair, CLEAR, AGAIN, 0, 0).freed == !holds_itself, "CLEAR frees an object unless it holds itself");
+    demand(pair_call(pair, COLLECT, 0, 0, 0).freed == holds_itself, "COLLECT frees an object that holds itself");
 }
 
 /* In turns it is a string or buffer and an object. */
@@ -60,18 +58,20 @@ static void use_lowest(struct pair *pair, size_t cell, const struct use *use)
     new_and_freed(pair, cell, use->kind);
     new_object(pair, AGAIN, cell);
     fill_slots(pair, use->stored);
-    free_object(pair);
+    free_object(pair, use->stored == AGAIN);
     new_and_freed(pair, cell, use->kind);
     new_object(pair, AGAIN, cell);
-    free_object(pair);
+    free_object(pair, false);
 }
 
+/* There is no other object, so this one holds itself. */
 static void first_cell(size_t cells)
 {
     pair_sequence("the first cell used again");
     struct pair pair = pair_of(cells);
     for (size_t i = 0; i < USES; i++)
-        use_lowest(&pair, 0, &uses[i]);
+        if (uses[i].stored == AGAIN)
+            use_lowest(&pair, 0, &uses[i]);
     pair_free(&pair);
 }
 

@@ -24,8 +24,8 @@ static void make_cell(struct heap *heap, size_t cell)
         heap->slots.at[SLOTS * object + SLOTS - 1] = cell - SLOTS + 1;
 }
 
-/* All cells are used. A ring takes a slot of each object, so no more of them can be strings and buffers that one slot each
-   holds: 896 of 1,024. */
+/* All cells are used, and one slot of each object is for an object, so that a ring can be made of them. COLLECT can free no
+   more strings and buffers than stand in the others: 896 of 1,024. */
 void make_baskets(struct heap *heap)
 {
     size_t n = heap->kind.len, last_object = (n - 1) / SLOTS * SLOTS;

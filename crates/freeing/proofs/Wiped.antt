@@ -13,7 +13,7 @@ use Rattle.laws.specs.Lists.Tests.{fails}
 use Rattle.laws.specs.Freeing.{kinds-plain, plain-kinds}
 use Rattle.freeing.specs.Freeing.{CellFreed}
 
--- ---- the kinds
+-- ---- the kinds, as bounds: a test for another kind is then refuted by a number
 
 pub is-plain : (k : ℕ) → 2 ≤ k → k ≤ 3 → true ≡ plain k
 is-plain k low high = sym (kinds-plain k (by-cases (ℕ-discrete k 2) (λ e. inl e) (λ n. inr (omega arith))))

@@ -6,7 +6,7 @@ ghost use lib.ListN.{length};
 ghost use Rattle.rules.specs.Heap.{plain, wipedSlots};
 ghost use Rattle.freeing.specs.Freeing.{CellInTables, CellFreed};
 
-// Whether this is the kind of a string or buffer: these hold no references.
+// Whether this is the kind of a string or buffer.
 pub fn is_plain(kind: u16) -> bool
     ensures { λ r. ⌜ r ≡ plain kind ⌝ }
 {

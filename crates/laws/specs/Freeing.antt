@@ -11,9 +11,9 @@ use borrow.Author.Tests.{eqb-true}
 use lib.Dec.{eqb}
 use lib.ListN.{length, getD, set, replicate}
 use lib.Seq.{length-sets, getD-set-other, ext-getD}
-use Rattle.rules.specs.Heap.{Heap, tables, kindOf, slotsOf, plain, emptied, wipedSlots, wipe}
+use Rattle.rules.specs.Heap.{Heap, kindOf, slotsOf, plain, emptied, wipedSlots, wipe}
 use Rattle.rules.specs.Sound.{EmptySlots}
-use Rattle.rules.specs.Freeing.{zeroed, StringOrBuffer, FreeingStep}
+use Rattle.rules.specs.Freeing.{zeroedWith, zeroed, StringOrBuffer, FreeingStep}
 use Rattle.laws.specs.Lists.Tables.{set-here, zeros-in, zeros-out, slot-entry, slots-most, apart}
 use Rattle.laws.specs.Lists.Tests.{split}
 use Rattle.laws.specs.Sound.But.{PlainSlots}
@@ -38,6 +38,21 @@ slots-spared k slots c e = rw e refl
 pub slots-emptied : (k : ℕ) (slots : List ℕ) (c : ℕ) → plain k ≡ false → wipedSlots k slots c ≡ emptied slots c
 slots-emptied k slots c e = rw e refl
 
+-- the slots keep their number
+pub wiped-length : (k : ℕ) (slots : List ℕ) (c : ℕ) → length (wipedSlots k slots c) ≡ length slots
+wiped-length k slots c =
+    ⊎-elim (λ e. ap length (slots-spared k slots c e)) (λ e. ap length (slots-emptied k slots c e) ∙ length-sets slots (8 * c) (replicate 8 0)) (split (plain k))
+
+-- and those of other cells stay
+pub wiped-out : (k : ℕ) (slots : List ℕ) (c d j : ℕ) → j < 8 → d ≢ c → getD (wipedSlots k slots c) (8 * d + j) 0 ≡ getD slots (8 * d + j) 0
+wiped-out k slots c d j b n =
+    ⊎-elim
+    (λ e. ap (λ (s : List ℕ). getD s (8 * d + j) 0) (slots-spared k slots c e))
+    (λ e. ap (λ (s : List ℕ). getD s (8 * d + j) 0) (slots-emptied k slots c e) ∙ zeros-out 8 slots (8 * c) (8 * d + j) (apart d c j b n))
+    (split (plain k))
+
+-- ---- where the slots of strings and buffers are empty
+
 -- slots that are empty stay as they are when they are emptied
 emptied-same : (slots : List ℕ) (c : ℕ) → ((j : ℕ) → j < 8 → getD slots (8 * c + j) 0 ≡ 0) → emptied slots c ≡ slots
 emptied-same slots c none =
@@ -54,25 +69,9 @@ emptied-same slots c none =
         zeros-in 8 slots (8 * c) i (omega arith) l ∙ sym (ap (λ (k : ℕ). getD slots k 0) e ∙ none (i - 8 * c) (omega arith)))
         (λ m. zeros-out 8 slots (8 * c) i (inr (omega arith))))
 
--- the slots keep their number
-pub wiped-length : (k : ℕ) (slots : List ℕ) (c : ℕ) → length (wipedSlots k slots c) ≡ length slots
-wiped-length k slots c =
-    ⊎-elim (λ e. ap length (slots-spared k slots c e)) (λ e. ap length (slots-emptied k slots c e) ∙ length-sets slots (8 * c) (replicate 8 0)) (split (plain k))
-
--- and those of other cells stay
-pub wiped-out : (k : ℕ) (slots : List ℕ) (c d j : ℕ) → j < 8 → d ≢ c → getD (wipedSlots k slots c) (8 * d + j) 0 ≡ getD slots (8 * d + j) 0
-wiped-out k slots c d j b n =
-    ⊎-elim
-    (λ e. ap (λ (s : List ℕ). getD s (8 * d + j) 0) (slots-spared k slots c e))
-    (λ e. ap (λ (s : List ℕ). getD s (8 * d + j) 0) (slots-emptied k slots c e) ∙ zeros-out 8 slots (8 * c) (8 * d + j) (apart d c j b n))
-    (split (plain k))
-
--- ---- where the slots of strings and buffers are empty
-
 pub wipe-empty : (h : Heap) (c : ℕ) → (StringOrBuffer h c → EmptySlots h c) → wipe h c ≡ zeroed h c
-unfolding wipe zeroed
-wipe-empty h c empty i =
-    tables (set (h .kind) c 0) (set (h .flags) c 0) (set (h .count) c 0) (slots i) (h .roots) (h .queue) (h .control)
+unfolding wipe
+wipe-empty h c empty i = zeroedWith h c (slots i)
   where
     slots : wipedSlots (kindOf h c) (h .slots) c ≡ emptied (h .slots) c
     slots =
@@ -100,4 +99,7 @@ plain-kept h c empty d j b u =
 
 pub freeing-step : FreeingStep
 unfolding wipe
-freeing-step = record { spares = λ h c p. slots-spared (kindOf h c) (h .slots) c (kinds-plain (kindOf h c) p); empties = wipe-empty }
+freeing-step = record {
+  spares = λ h c p i. zeroedWith h c (slots-spared (kindOf h c) (h .slots) c (kinds-plain (kindOf h c) p) i);
+  empties = wipe-empty;
+}

@@ -103,5 +103,5 @@ module _ (k f n s q t : List ℕ) (r : ℕ) where
           room = size;
           bound = omega (arith, e .bound);
           listed = ap (λ (i : ℕ). take i w′) is ∙ e .listed;
-          draining = record { slots = a .slots; plain = a .plain; balanced = beside-balanced _ _ _ _ s [] [] [] (a .balanced) };
+          draining = record { slots = a .slots; plainSlots = a .plainSlots; balanced = beside-balanced _ _ _ _ s [] [] [] (a .balanced) };
         }

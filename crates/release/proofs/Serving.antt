@@ -124,7 +124,7 @@ module _ (k₀ f₀ n₀ s₀ q₀ t₀ w₀ : List ℕ) (tail : ℕ) (k f n s q
       cell-due = record {
         stands = stands;
         inside = serve-slots _ _ _ _ _ next (g .draining);
-        plain = g .draining .plain;
+        plainSlots = g .draining .plainSlots;
         due = record {
           serving = c ∷ [];
           done = g .gone;
@@ -192,7 +192,7 @@ module _ (k₀ f₀ n₀ s₀ q₀ t₀ w₀ : List ℕ) (tail : ℕ) (k f n s q
         next-draining =
             let d : Draining (beside [] (c ∷ []) (lowered .queued) (working k′ f′ n″ s′ q′ t′ (rest ++ lowered .pending))) (g .gone ++ (c ∷ [])) (g .outside) =
             subst (λ (u : Work). Draining u (g .gone ++ (c ∷ [])) (g .outside)) serve-is (serve-draining _ _ _ _ _ next (g .draining)) in
-            record { slots = d .slots; plain = d .plain; balanced = beside-balanced _ _ _ _ s′ [] [] [] (d .balanced) }
+            record { slots = d .slots; plainSlots = d .plainSlots; balanced = beside-balanced _ _ _ _ s′ [] [] [] (d .balanced) }
 
         pub serve-on : length k′ ≡ length k → length f′ ≡ length f → length n″ ≡ length n → length s′ ≡ length s → length q′ ≡ length q → length t′ ≡ length t
             → Serving k₀ f₀ n₀ s₀ q₀ t₀ w₀ tail k′ f′ n″ s′ q′ t′ w′ x′ (head + 1)

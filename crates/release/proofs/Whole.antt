@@ -25,7 +25,7 @@ pub begun-settled : (w : Work) (outside : List ℕ) → Settled w outside → Se
 unfolding start
 begun-settled w outside a =
     let b = rw (a .empty) at (beside-balanced _ _ _ _ (w .heap .slots) [] [] [] (a .draining .balanced)) in
-    record { empty = refl; draining = record { slots = a .draining .slots; plain = a .draining .plain; balanced = b } }
+    record { empty = refl; draining = record { slots = a .draining .slots; plainSlots = a .draining .plainSlots; balanced = b } }
 
 pub releasable : (h : Heap) (r : ℕ) (extra : List ℕ) → SoundBut h (r ∷ extra) → Releasable (h .kind) (h .flags) (h .count) (h .slots) (h .queue) (h .control) r
 unfolding start

@@ -27,7 +27,7 @@ pub record ToComeOff (kind flags count queue control work : List ℕ) (tail : �
 pub record SlotsToComeOff (kind flags count slots queue control work : List ℕ) (tail c : ℕ) : Type 0 where
   pub stands : c < length kind
   pub inside : 8 * c + 8 ≤ length slots
-  pub plain : PlainSlots kind slots
+  pub plainSlots : PlainSlots kind slots
   pub due : ToComeOff kind flags count queue control work tail (slotsOf slots c)
 
 -- the same for r alone, which is the last reference to its cell

@@ -1,4 +1,5 @@
--- Document 01, "What the box holds": the seven lent tables, how they are read, and how one entry is written.
+-- Document 01, "What the box holds": the seven lent tables, how they are read, and how one entry is written; and the freeing step, with Q-3 of
+-- document 02.
 -- A table reads as 0 beyond its end, so that no cell number needs a bound.
 -- Assumes nothing: these are definitions.
 use Prim.Native.Nat.{ℕ, suc, _+_, _*_, _≤_}
@@ -101,7 +102,7 @@ setQueue h q n = tables (h .kind) (h .flags) (h .count) (h .slots) (h .roots) q 
 unfoldable pub enqueue : Heap → ℕ → Heap
 enqueue h c = setQueue h (set (h .queue) (queued h) (suc c)) (suc (queued h))
 
--- "2 string, 3 buffer": cells that hold no references
+-- "2 string, 3 buffer"
 unfoldable pub plain : ℕ → Bool
 plain k = eqb k 2 || eqb k 3
 
@@ -109,10 +110,11 @@ plain k = eqb k 2 || eqb k 3
 abbrev pub emptied : List ℕ → ℕ → List ℕ
 emptied slots c = sets slots (8 * c) (replicate 8 0)
 
--- Document 02, Q-3: "the freeing step should write no slot of a string or buffer: on any tables they stay as they were". Of a cell of this kind
+-- the slots after a cell of this kind was freed. Document 02, Q-3: "the freeing step should write no slot of a string or buffer: on any tables
+-- they stay as they were"
 abbrev pub wipedSlots : ℕ → List ℕ → ℕ → List ℕ
 wipedSlots kind slots c = cond (plain kind) slots (emptied slots c)
 
--- the freeing step: "the cell is all zeros"
+-- the freeing step, "then the cell is all zeros": its slots by the kind that it has when the step begins
 unfoldable pub wipe : Heap → ℕ → Heap
 wipe h c = tables (set (h .kind) c 0) (set (h .flags) c 0) (set (h .count) c 0) (wipedSlots (kindOf h c) (h .slots) c) (h .roots) (h .queue) (h .control)

@@ -165,9 +165,9 @@ fn shape_ok(kind: u16, flags: u16, queued: u16) -> bool
 {
     let object = kind == OBJECT;
     let finalizer = object & (flags == 1);
-    let plain = (flags == 0) & (kind <= 3);
+    let unflagged = (flags == 0) & (kind <= 3);
     let finalised = object & (flags == 3);
-    (finalizer | plain | finalised) & ((queued == 0) | finalizer)
+    (finalizer | unflagged | finalised) & ((queued == 0) | finalizer)
 }
 
 // Has each cell a kind and flags that go together, and is each queued one an object with flags 1? So far the tally has only the queue.

@@ -39,7 +39,7 @@ module _ {k f n s : List ℕ} where
   }
 
 -- cells below c were wiped where they are garbage
-module _ {k f n s k′ f′ n′ s′ : List ℕ} {r : ℕ} (m : List ℕ) (c : ℕ) (inside : c ≤ length k) (same : Same k f n s) (a : Freed k f n s (select (isGarbage k m) c) k′ f′ n′ s′ r) where
+module _ {k f n s k′ f′ n′ s′ : List ℕ} {r : ℕ} (m : List ℕ) (c : ℕ) (same : Same k f n s) (a : Freed k f n s (select (isGarbage k m) c) k′ f′ n′ s′ r) where
   h : Heap
   h = tables k f n s [] [] []
 

@@ -10,7 +10,6 @@ use lib.ListN.{length, getD, set, length-set, length-take, length-drop}
 use lib.Seq.{getD-set-other, ext-getD}
 use Rattle.rules.specs.Lists.{occ}
 use Rattle.rules.specs.Heap.{Heap, kindOf, flagsOf, countOf, slotOf, slotsOf, wipedSlots, wipe}
-use Rattle.rules.specs.Freeing.{zeroed}
 use Rattle.rules.specs.Collect.{wipeAll}
 use Rattle.laws.specs.Lists.Tables.{set-here, zeros-in, slot-entry, slots-most}
 use Rattle.laws.specs.Lists.Occ.{occ-nil, occ-here, occ-cons, occ-one, occ-absent, occ-single, occ-cleared}
@@ -102,13 +101,6 @@ unfolding wipeAll
 wiped h [] = wiped-none h
 wiped h (c ∷ l) = wiped-then h (wipe h c) _ c l (wiped-one h c) (wiped (wipe h c) l)
 
--- ---- where the slots of strings and buffers are empty
-
--- the cells of l are all zeros, and their slots hold nothing any more
-pub record Emptied (h after : Heap) (l : List ℕ) : Type 0 where
-  pub slotsIn : (x s : ℕ) → s < 8 → 1 ≤ occ x l → slotOf after x s ≡ 0
-  pub slotsOcc : (y : ℕ) → occ (suc y) (after .slots) + heldBy (h .slots) l (suc y) ≡ occ (suc y) (h .slots)
-
 -- the slots of another cell are not touched
 wiped-others : (h : Heap) (c d : ℕ) → d ≢ c → slotsOf (wipe h c .slots) d ≡ slotsOf (h .slots) d
 unfolding wipe
@@ -131,36 +123,42 @@ heldBy-others h c (d ∷ l) o y =
     let n : d ≢ c = λ e. omega (arith, occ-cons c d l, occ-one c d (sym e)) in
     omega (arith, ap (occ y) (wiped-others h c d n), heldBy-others h c l (omega (arith, occ-cons c d l)) y)
 
--- one cell, by what it was all zeros for
-module _ (h : Heap) (c : ℕ) (plain : PlainSlots (h .kind) (h .slots)) where
+-- ---- where the slots of strings and buffers are empty
+
+-- the slots of the cells of l are 0, and what they held is held so much less
+pub record Emptied (h after : Heap) (l : List ℕ) : Type 0 where
+  pub slotsIn : (x s : ℕ) → s < 8 → 1 ≤ occ x l → slotOf after x s ≡ 0
+  pub slotsOcc : (y : ℕ) → occ (suc y) (after .slots) + heldBy (h .slots) l (suc y) ≡ occ (suc y) (h .slots)
+
+-- one cell, which is all zeros
+module _ (h : Heap) (c : ℕ) (empty : PlainSlots (h .kind) (h .slots)) where
   one-in : (s : ℕ) → s < 8 → slotOf (wipe h c) c s ≡ 0
-  unfolding zeroed
-  one-in s b = ap (λ (g : Heap). slotOf g c s) (wipe-plain h c plain) ∙ zeros-in 8 (h .slots) (8 * c) (8 * c + s) (omega arith) (omega arith)
+  one-in s b = ap (λ (g : Heap). slotOf g c s) (wipe-plain h c empty) ∙ zeros-in 8 (h .slots) (8 * c) (8 * c + s) (omega arith) (omega arith)
 
   one-occ : 8 * c + 8 ≤ length (h .slots) → (y : ℕ) → occ (suc y) (wipe h c .slots) + occ (suc y) (slotsOf (h .slots) c) ≡ occ (suc y) (h .slots)
-  unfolding zeroed slotsOf
-  one-occ room y = omega (arith, ap (λ (g : Heap). occ (suc y) (g .slots)) (wipe-plain h c plain), occ-cleared 8 (h .slots) (8 * c) y room)
+  unfolding slotsOf
+  one-occ room y = omega (arith, ap (λ (g : Heap). occ (suc y) (g .slots)) (wipe-plain h c empty), occ-cleared 8 (h .slots) (8 * c) y room)
 
 pub emptied-all : (h : Heap) (l : List ℕ) → PlainSlots (h .kind) (h .slots) → ((x : ℕ) → occ x l ≤ 1)
     → ((x : ℕ) → 1 ≤ occ x l → 8 * x + 8 ≤ length (h .slots)) → Emptied h (wipeAll h l) l
 unfolding wipeAll heldBy
-emptied-all h [] plain once inside = record { slotsIn = λ x s b i. absurd (omega (arith, occ-nil x)); slotsOcc = λ y. omega arith }
-emptied-all h (c ∷ l) plain once inside =
+emptied-all h [] empty once inside = record { slotsIn = λ x s b i. absurd (omega (arith, occ-nil x)); slotsOcc = λ y. omega arith }
+emptied-all h (c ∷ l) empty once inside =
     let g : Heap = wipe h c in
     let sum : (x : ℕ) → occ x (c ∷ l) ≡ occ x (c ∷ []) + occ x l = λ x. occ-cons x c l in
     let rest : Emptied g (wipeAll g l) l =
-    emptied-all g l (plain-kept h c plain) (λ x. omega (arith, once x, sum x)) (λ x b. omega (arith, wiped-one h c .slotsLength, inside x (omega (arith, sum x)))) in
+    emptied-all g l (plain-kept h c empty) (λ x. omega (arith, once x, sum x)) (λ x b. omega (arith, wiped-one h c .slotsLength, inside x (omega (arith, sum x)))) in
     record {
       slotsIn = λ x s b i.
           by-cases (ℕ-discrete (occ x l) 0)
           (λ z.
           let e : x ≡ c = occ-single x c (omega (arith, sum x)) in
-          wiped g l .slotsOut x s b z ∙ ap (λ (d : ℕ). slotOf g d s) e ∙ one-in h c plain s b)
+          wiped g l .slotsOut x s b z ∙ ap (λ (d : ℕ). slotOf g d s) e ∙ one-in h c empty s b)
           (λ n. rest .slotsIn x s b (omega arith));
       slotsOcc = λ y. omega (
         arith,
         rest .slotsOcc y,
-        one-occ h c plain (inside c (omega (arith, occ-here c l))) y,
+        one-occ h c empty (inside c (omega (arith, occ-here c l))) y,
         heldBy-others h c l (omega (arith, once c, occ-here c l)) (suc y),
       );
     }

@@ -12,7 +12,6 @@ use Rattle.laws.specs.Lists.Tests.{none-of}
 use Rattle.rules.specs.Lists.{occ}
 use Rattle.rules.specs.Heap.{Heap, queued, running, kindOf, countOf, slotOf, entries, setCount, setQueue, enqueue, wipe}
 use Rattle.rules.specs.Release.{Work, decref, decrefs, lower, refzero, finalizable, withPending, retire}
-use Rattle.rules.specs.Freeing.{zeroed}
 use Rattle.laws.specs.Lists.Tables.{set-here, zeros-in}
 use Rattle.laws.specs.Lists.Occ.{occ-nil, occ-append, occ-absent, occ-single, occ-length}
 use Rattle.laws.specs.Sound.But.{PlainSlots}
@@ -166,7 +165,7 @@ decrefs-advance w serving done (r ∷ l) held b =
 
 -- a used cell becomes all zeros
 pub retire-advance : (w : Work) (c : ℕ) → PlainSlots (w .heap .kind) (w .heap .slots) → 1 ≤ kindOf (w .heap) c → Advance w (retire w c) (c ∷ []) []
-unfolding retire wipe zeroed
+unfolding retire wipe
 retire-advance w c empty u =
     record {
       roots = refl;

@@ -30,7 +30,7 @@ pub record Balanced (w : Work) (serving done held : List ℕ) : Type 0 where
 -- Between two entries of the work list: what is held besides the slots is `outside` (the roots, and references that stay counted).
 pub record Draining (w : Work) (done outside : List ℕ) : Type 0 where
   pub slots : length (w .heap .slots) ≡ 8 * length (w .heap .kind)
-  pub plain : PlainSlots (w .heap .kind) (w .heap .slots)
+  pub plainSlots : PlainSlots (w .heap .kind) (w .heap .slots)
   pub balanced : Balanced w [] done (w .heap .slots ++ outside)
 
 -- From w to v exactly `cells` are freed, `joined` join the queue, both in order, and everything else but counts and work list stays.

@@ -12,7 +12,6 @@ use Rattle.laws.specs.Freeing.{wiped-length, wipe-plain, plain-kept}
 use Rattle.rules.specs.Lists.{occ}
 use Rattle.rules.specs.Heap.{Heap, kindOf, countOf, slotsOf, emptied, wipe}
 use Rattle.rules.specs.Release.{Work, decref, decrefs, withPending, retire, serve, drain, release}
-use Rattle.rules.specs.Freeing.{zeroed}
 use Rattle.laws.specs.Lists.Tables.{by-cell, inside, set-here, set-same}
 use Rattle.laws.specs.Lists.Occ.{occ-three, occ-nil, occ-here, occ-append, occ-cons, occ-length, occ-empty, occ-snoc-there, occ-one, occ-other, occ-cleared}
 use Rattle.laws.specs.Lists.Pigeonhole.{pigeonhole}
@@ -40,7 +39,7 @@ begin w done held c rest e b =
       distinct = λ d. omega (arith, same d, b .distinct d);
     }
 
--- the cell that was served is all zeros
+-- the cell that was served is freed
 finish : (w : Work) (done held : List ℕ) (c : ℕ) → Balanced w (c ∷ []) done held → Balanced (retire w c) [] (done ++ (c ∷ [])) held
 unfolding retire wipe
 finish w done held c b =
@@ -89,7 +88,7 @@ work-list w serving done held b =
 
 -- ---- one cell
 
--- cell c with its slots come off, before it is all zeros
+-- cell c with its slots come off, before it is freed
 abbrev pub served : Work → ℕ → List ℕ → Work
 served w c rest = decrefs (withPending w rest) (slotsOf (w .heap .slots) c)
 
@@ -125,20 +124,20 @@ module _ (w : Work) (done outside : List ℕ) (c : ℕ) (rest : List ℕ) (e : w
       (begin w done (s ++ outside) c rest e (d .balanced))
 
   served-plain : PlainSlots (served w c rest .heap .kind) (served w c rest .heap .slots)
-  served-plain = let f : Frame w (served w c rest) = served-frame w c rest in rw (f .kind, f .slots) (d .plain)
+  served-plain = let f : Frame w (served w c rest) = served-frame w c rest in rw (f .kind, f .slots) (d .plainSlots)
 
   served-balanced : Balanced (served w c rest) (c ∷ []) done (emptied (w .heap .slots) c ++ outside)
   served-balanced = decrefs-balanced (withPending w rest) (c ∷ []) done (slotsOf (w .heap .slots) c) (emptied (w .heap .slots) c ++ outside) serve-begin
 
   -- the cell is all zeros, and the next one's turn comes
   pub serve-draining : Draining (serve w c rest) (done ++ (c ∷ [])) outside
-  unfolding serve retire wipe zeroed
+  unfolding serve retire wipe
   serve-draining =
       let v : Work = served w c rest in
       let f : Frame w v = served-frame w c rest in
       record {
         slots = omega (arith, wiped-length (kindOf (v .heap) c) (v .heap .slots) c, length-set (v .heap .kind) c 0, ap length (f .slots), ap length (f .kind));
-        plain = plain-kept (v .heap) c served-plain;
+        plainSlots = plain-kept (v .heap) c served-plain;
         balanced =
             subst⁻¹ (λ (h : Heap). Balanced (retire v c) [] (done ++ (c ∷ [])) (h .slots ++ outside)) (wipe-plain (v .heap) c served-plain)
             (finish v done (emptied (v .heap .slots) c ++ outside) c
@@ -250,7 +249,7 @@ decref-draining w r outside d =
     let f : Frame w (decref w r) = decref-frame w r in
     record {
       slots = omega (arith, ap length (f .slots), ap length (f .kind));
-      plain = rw (f .kind, f .slots) (d .plain);
+      plainSlots = rw (f .kind, f .slots) (d .plainSlots);
       balanced = subst⁻¹ (λ (l : List ℕ). Balanced (decref w r) [] [] (l ++ outside)) (f .slots) (decref-balanced w [] [] r (w .heap .slots ++ outside) (release-due w r outside d));
     }
 
@@ -263,6 +262,13 @@ release-released w r outside s =
     record {
       cells = q .cells;
       joined = a .0 ++ q .joined;
-      settled = record { draining = record { slots = q .draining .slots; plain = q .draining .plain; balanced = forget (release w r) (q .cells) _ (q .draining .balanced) }; empty = q .empty };
+      settled = record {
+        draining = record {
+          slots = q .draining .slots;
+          plainSlots = q .draining .plainSlots;
+          balanced = forget (release w r) (q .cells) _ (q .draining .balanced);
+        };
+        empty = q .empty;
+      };
       advance = advance-trans w (decref w r) (release w r) [] (q .cells) (a .0) (q .joined) (a .1) (q .advance);
     }

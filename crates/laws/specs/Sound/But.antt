@@ -45,7 +45,7 @@ pub record QueueOk (kind flags queue control : List ℕ) : Type 0 where
   pub wanting : (c : ℕ) → 1 ≤ occ (suc c) (entriesOf queue control) → getD flags c 0 ≡ 1
   pub rest : (i : ℕ) → getD control 0 0 ≤ i → getD queue i 0 ≡ 0
 
--- of rule 2: strings and buffers have empty slots; of the tables kind and slots
+-- of rule 2: cells of kinds from 2 on, by rule 1 strings and buffers, have empty slots; of the tables kind and slots
 abbrev pub PlainSlots : List ℕ → List ℕ → Type 0
 PlainSlots kind slots = (c k : ℕ) → k < 8 → 2 ≤ getD kind c 0 → getD slots (8 * c + k) 0 ≡ 0
 

@@ -70,7 +70,7 @@ returns c =
     let is-plain = c .before .is-plain in
     let if1 = c .if1 in
     let at = ap (λ (i : ℕ). plain (getD (entry .args .kind .now) i 0)) (index .ensures) in
-    spared _ _ _ _ _ _ _ _ (entry .args .cell .0) (entry .pre .plain) (sym at ∙ sym (is-plain .ensures) ∙ if1 .taken) (tail-fits _ _ _ _ _ _ _ _ (entry .pre .due))
+    spared _ _ _ _ _ _ _ _ (entry .args .cell .0) (entry .pre .plainSlots) (sym at ∙ sym (is-plain .ensures) ∙ if1 .taken) (tail-fits _ _ _ _ _ _ _ _ (entry .pre .due))
 
 mul-i : tie.Need-mul-i Inv-loop μ-loop
 mul-i c =
@@ -129,9 +129,8 @@ loop-again c =
     let decref = c .before .before .before .before .before .before .before .before .decref in
     let loop = c .before .before .before .before .before .before .before .before .before .before .before .before .before .before .before .loop in
     let loop-test = c .before .before .before .before .before .before .before .before .before .before .before .before .before .before .loop-test in
-    let d = decref in
-    go-on _ _ _ _ _ _ _ _ _ _ _ _ _ _ _ _ (loop .inv) (omega (arith, loop-test .taken)) _ _ _ _ _ (d .ensures)
-    (d .kept .1 .1 .0) (d .kept .1 .1 .1 .0) (d .kept .1 .1 .1 .1 .0) (d .kept .1 .1 .1 .1 .1 .0)
+    go-on _ _ _ _ _ _ _ _ _ _ _ _ _ _ _ _ (loop .inv) (omega (arith, loop-test .taken)) _ _ _ _ _ (decref .ensures)
+    (decref .kept .1 .1 .0) (decref .kept .1 .1 .1 .0) (decref .kept .1 .1 .1 .1 .0) (decref .kept .1 .1 .1 .1 .1 .0)
 
 same-length : tie.Need-same-length Inv-loop μ-loop
 same-length c = c .before .loop .inv .count-kept

@@ -137,11 +137,10 @@ loop-again c =
     c .before .before .before .before .before .before .before .before .before .before .before .before .before .before .before .before .before .before
     .before .before .before .before .before .before .before .before .before .before .before .before .before .before .before .before .loop-test in
     let is = rw (cell .given .1) at (of .ensures) in
-    let d = decref-slots in
-    let z = free-cell in
     serve-on _ _ _ _ _ _ _ _ _ _ _ _ _ _ _ _ _ (loop .inv) (loop-test .taken) _ (omega (arith, is .0))
-    _ _ _ _ _ (d .ensures) _ _ _ _ (z .ensures) (d .kept .1 .1 .1 .1 .1 .1 .0)
-    (z .kept .0) (z .kept .1 .0) (z .kept .1 .1 .0 ∙ d .kept .1 .1 .0) (z .kept .1 .1 .1 .0) (d .kept .1 .1 .1 .1 .0) (d .kept .1 .1 .1 .1 .1 .0)
+    _ _ _ _ _ (decref-slots .ensures) _ _ _ _ (free-cell .ensures) (decref-slots .kept .1 .1 .1 .1 .1 .1 .0)
+    (free-cell .kept .0) (free-cell .kept .1 .0) (free-cell .kept .1 .1 .0 ∙ decref-slots .kept .1 .1 .0) (free-cell .kept .1 .1 .1 .0)
+    (decref-slots .kept .1 .1 .1 .1 .0) (decref-slots .kept .1 .1 .1 .1 .1 .0)
 
 cast-result-2 : tie.Need-cast-result-2 Inv-loop μ-loop
 cast-result-2 c = omega (arith, ahead _ _ _ _ _ _ _ _ _ _ _ _ _ _ _ _ _ (c .before .loop .inv), c .before .loop .inv .bound)

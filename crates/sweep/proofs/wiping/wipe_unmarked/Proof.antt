@@ -1,4 +1,4 @@
--- `sweep::wiping::wipe_unmarked` meets its contract: the garbage below `c` is all zeros. Assumes nothing.
+-- `sweep::wiping::wipe_unmarked` meets its contract: the garbage below `c` is free. Assumes nothing.
 use Prim.Native.Nat.{_-_, _≤_}
 use native.Mathlib.Omega.{arith}
 use mathlib.Core.Path.{_≡_, refl, sym, _∙_}
@@ -55,8 +55,8 @@ wipe-cell-requires c κs =
     let cell = c .before .before .before .before .before .cell .given in
     let is = rw (cell .1) at (of .ensures) in
     let here : cell .0 .0 .0 ≡ loop .c = omega arith in
-    let len = freed-length (entry .args .marks .now) (loop .c) (omega arith) (entry .pre .0) (loop .inv .1) in
-    (freed-same (entry .args .marks .now) (loop .c) (omega arith) (entry .pre .0) (loop .inv .1), (omega arith, entry .pre .1 .0 ∙ sym len))
+    let len = freed-length (entry .args .marks .now) (loop .c) (entry .pre .0) (loop .inv .1) in
+    (freed-same (entry .args .marks .now) (loop .c) (entry .pre .0) (loop .inv .1), (omega arith, entry .pre .1 .0 ∙ sym len))
 
 add-freed : tie.Need-add-freed Inv-loop μ-loop
 add-freed c =
@@ -94,7 +94,7 @@ loop-again c =
     let is = rw (cell .1) at (of .ensures) in
     let here : cell .0 .0 .0 ≡ loop .c = omega arith in (
       omega arith,
-      freed-next (entry .args .marks .now) (loop .c) (omega arith) (entry .pre .0) (loop .inv .1) (rw here at (wipe-cell .ensures)),
+      freed-next (entry .args .marks .now) (loop .c) (entry .pre .0) (loop .inv .1) (rw here at (wipe-cell .ensures)),
       wipe-cell .kept .0 ∙ loop .inv .2,
       wipe-cell .kept .1 .0 ∙ loop .inv .3,
       wipe-cell .kept .1 .1 .0 ∙ loop .inv .4,
