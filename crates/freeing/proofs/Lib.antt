@@ -1,1 +1,1 @@
-pub mod Wiped
+pub mod Freed

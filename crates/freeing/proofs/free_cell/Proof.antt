@@ -3,7 +3,7 @@ use Prim.Native.Nat.{ℕ}
 use native.Mathlib.Omega.{arith}
 use mathlib.Core.Path.{ap}
 use lib.ListN.{getD, length-set}
-use Rattle.freeing.proofs.Wiped.{freed}
+use Rattle.freeing.proofs.Freed.{freed}
 use borrow.Author.Needs.{needs}
 use Rattle.freeing.proofs.free_cell.Statement.{statement}
 use Rattle.freeing.proofs.free_cell.Tie as tie

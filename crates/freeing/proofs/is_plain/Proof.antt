@@ -1,6 +1,6 @@
 -- `freeing::is_plain` meets its contract. Assumes nothing.
 use native.Mathlib.Omega.{arith}
-use Rattle.freeing.proofs.Wiped.{is-plain, not-plain}
+use Rattle.freeing.proofs.Freed.{is-plain, not-plain}
 use Rattle.freeing.proofs.is_plain.Statement.{statement}
 use Rattle.freeing.proofs.is_plain.Tie as tie
 
