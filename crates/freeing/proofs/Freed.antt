@@ -5,12 +5,12 @@ use native.Mathlib.Decide.{ℕ-discrete}
 use native.Mathlib.Omega.{arith}
 use mathlib.Core.List.{List}
 use mathlib.Core.Bool.{true, false}
-use mathlib.Core.Logic.{inl, inr, ⊎-elim, by-cases}
+use mathlib.Core.Logic.{inl, inr, by-cases}
 use mathlib.Core.Path.{_≡_, sym, ap, _∙_}
 use lib.ListN.{getD, set}
 use Rattle.rules.specs.Heap.{tables, plain, wipedSlots, wipe}
 use Rattle.laws.specs.Lists.Tests.{fails}
-use Rattle.laws.specs.Freeing.{kinds-plain, plain-kinds}
+use Rattle.laws.specs.Freeing.{kinds-plain, plain-kinds, plain-between}
 use Rattle.freeing.specs.Freeing.{CellFreed}
 
 -- ---- the kinds, as bounds: a test for another kind is then refuted by a number
@@ -19,7 +19,7 @@ pub is-plain : (k : ℕ) → 2 ≤ k → k ≤ 3 → true ≡ plain k
 is-plain k low high = sym (kinds-plain k (by-cases (ℕ-discrete k 2) (λ e. inl e) (λ n. inr (omega arith))))
 
 pub not-plain : (k : ℕ) → (2 ≤ k → k ≤ 3 → ⊥) → false ≡ plain k
-not-plain k out = sym (fails (plain k) (λ e. ⊎-elim (λ two. out (omega arith) (omega arith)) (λ three. out (omega arith) (omega arith)) (plain-kinds k e)))
+not-plain k out = sym (fails (plain k) (λ e. let in-bounds = plain-between k (plain-kinds k e) in out (in-bounds .0) (in-bounds .1)))
 
 -- ---- the cell
 

@@ -1,6 +1,6 @@
 -- The freeing step: what it writes on any tables, and that a cell is all zeros after it where the slots of strings and buffers were empty.
 -- Assumes nothing.
-use Prim.Native.Nat.{ℕ, _+_, _*_, _-_, _<_}
+use Prim.Native.Nat.{ℕ, _+_, _*_, _-_, _≤_, _<_}
 use native.Mathlib.Decide.{decLt}
 use native.Mathlib.Omega.{arith}
 use mathlib.Core.List.{List}
@@ -11,7 +11,7 @@ use borrow.Author.Tests.{eqb-true}
 use lib.Dec.{eqb}
 use lib.ListN.{length, getD, set, replicate}
 use lib.Seq.{length-sets, getD-set-other, ext-getD}
-use Rattle.rules.specs.Heap.{Heap, kindOf, slotsOf, plain, emptied, wipedSlots, wipe}
+use Rattle.rules.specs.Heap.{Heap, kindOf, slotOf, slotsOf, plain, emptied, wipedSlots, wipe}
 use Rattle.rules.specs.Sound.{EmptySlots}
 use Rattle.rules.specs.Freeing.{zeroedWith, zeroed, StringOrBuffer, FreeingStep}
 use Rattle.laws.specs.Lists.Tables.{set-here, zeros-in, zeros-out, slot-entry, slots-most, apart}
@@ -28,6 +28,10 @@ kinds-plain k (inr e) = ap plain e
 pub plain-kinds : (k : ℕ) → plain k ≡ true → (k ≡ 2) ⊎ (k ≡ 3)
 unfolding plain
 plain-kinds k e = ⊎-elim (λ two. inl (eqb-true k 2 two)) (λ other. inr (eqb-true k 3 (rw other at e))) (split (eqb k 2))
+
+pub plain-between : (k : ℕ) → (k ≡ 2) ⊎ (k ≡ 3) → (2 ≤ k) × (k ≤ 3)
+plain-between k (inl e) = (omega arith, omega arith)
+plain-between k (inr e) = (omega arith, omega arith)
 
 -- ---- on any tables
 
@@ -81,14 +85,18 @@ wipe-empty h c empty i = zeroedWith h c (slots i)
         (split (plain (kindOf h c)))
 
 pub wipe-plain : (h : Heap) (c : ℕ) → PlainSlots (h .kind) (h .slots) → wipe h c ≡ zeroed h c
-wipe-plain h c empty = wipe-empty h c (λ p j b. empty c j b (⊎-elim (λ e. omega arith) (λ e. omega arith) p))
+wipe-plain h c empty = wipe-empty h c (λ p j b. empty c j b (plain-between (kindOf h c) p .0))
+
+-- so the cell's own slots are 0
+pub wiped-in : (h : Heap) (c : ℕ) → PlainSlots (h .kind) (h .slots) → (j : ℕ) → j < 8 → slotOf (wipe h c) c j ≡ 0
+wiped-in h c empty j b = ap (λ (g : Heap). slotOf g c j) (wipe-plain h c empty) ∙ zeros-in 8 (h .slots) (8 * c) (8 * c + j) (omega arith) (omega arith)
 
 -- a string or buffer has no references to take off
 pub plain-none : (kind slots : List ℕ) (c : ℕ) → PlainSlots kind slots → plain (getD kind c 0) ≡ true
     → (i : ℕ) → i < length (slotsOf slots c) → getD (slotsOf slots c) i 0 ≡ 0
 plain-none kind slots c empty e i b =
     let i8 : i < 8 = omega (arith, slots-most slots c) in
-    slot-entry slots c i i8 ∙ empty c i i8 (⊎-elim (λ k. omega arith) (λ k. omega arith) (plain-kinds (getD kind c 0) e))
+    slot-entry slots c i i8 ∙ empty c i i8 (plain-between (getD kind c 0) (plain-kinds (getD kind c 0) e) .0)
 
 -- a cell that becomes free is neither a string nor a buffer
 pub plain-kept : (h : Heap) (c : ℕ) → PlainSlots (h .kind) (h .slots) → PlainSlots (wipe h c .kind) (wipe h c .slots)

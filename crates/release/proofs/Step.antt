@@ -25,12 +25,15 @@ module _ (k f n q t : List ℕ) (c : ℕ) where
   plain-flags other = and-no (eqb (getD k c 0) 1) (ne-eqb (getD f c 0) 1 other)
 
 module _ (k f n q t before : List ℕ) (tail : ℕ) (bound : tail ≤ 1024) where
+  -- where nothing is to come off
+  pub came-off-nothing : CameOff (working k f n [] q t []) n q t before tail before tail
+  came-off-nothing = record { count = refl; queue = refl; control = refl; listed = sym (append-nil _); bound = bound }
+
   -- an empty reference
   pub came-off-none : (r : ℕ) → r ≡ 0 → CameOff (decref (working k f n [] q t []) r) n q t before tail before tail
   unfolding decref
   came-off-none r e =
-      subst⁻¹ (λ (x : ℕ). CameOff (decref (working k f n [] q t []) x) n q t before tail before tail) e
-      (record { count = refl; queue = refl; control = refl; listed = sym (append-nil _); bound = bound })
+      subst⁻¹ (λ (x : ℕ). CameOff (decref (working k f n [] q t []) x) n q t before tail before tail) e came-off-nothing
 
   module _ (r : ℕ) (some : r ≡ 0 → ⊥) where
     at : (m : ℕ) → getD n (r - 1) 0 ≡ m → decref (working k f n [] q t []) r ≡ lower (working k f n [] q t []) (r - 1) m

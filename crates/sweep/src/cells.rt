@@ -30,7 +30,7 @@ pub fn is_garbage(kind: &[u16], marks: &[u8], cell: Cell) -> bool
     requires { ⌜ cell .0 < length (now marks) ⌝ }
     ensures { λ r. ⌜ r ≡ isGarbage (now (kind .entry)) (now (marks .entry)) (cell .0) ⌝ }
 {
-    // first the mark: most cells have one
+    // the mark first: in a heap in use most cells are marked
     if mark_of(marks, cell) != UNMARKED {
         return false;
     }

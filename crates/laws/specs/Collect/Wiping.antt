@@ -11,10 +11,10 @@ use lib.Seq.{getD-set-other, ext-getD}
 use Rattle.rules.specs.Lists.{occ}
 use Rattle.rules.specs.Heap.{Heap, kindOf, flagsOf, countOf, slotOf, slotsOf, wipedSlots, wipe}
 use Rattle.rules.specs.Collect.{wipeAll}
-use Rattle.laws.specs.Lists.Tables.{set-here, zeros-in, slot-entry, slots-most}
+use Rattle.laws.specs.Lists.Tables.{set-here, slot-entry, slots-most}
 use Rattle.laws.specs.Lists.Occ.{occ-nil, occ-here, occ-cons, occ-one, occ-absent, occ-single, occ-cleared}
 use Rattle.laws.specs.Sound.But.{PlainSlots}
-use Rattle.laws.specs.Freeing.{wiped-length, wiped-out, wipe-plain, plain-kept}
+use Rattle.laws.specs.Freeing.{wiped-length, wiped-out, wipe-plain, wiped-in, plain-kept}
 use Rattle.laws.specs.Collect.Phases.{heldBy}
 
 -- ---- on any tables
@@ -130,14 +130,11 @@ pub record Emptied (h after : Heap) (l : List ℕ) : Type 0 where
   pub slotsIn : (x s : ℕ) → s < 8 → 1 ≤ occ x l → slotOf after x s ≡ 0
   pub slotsOcc : (y : ℕ) → occ (suc y) (after .slots) + heldBy (h .slots) l (suc y) ≡ occ (suc y) (h .slots)
 
--- one cell, which is all zeros
-module _ (h : Heap) (c : ℕ) (empty : PlainSlots (h .kind) (h .slots)) where
-  one-in : (s : ℕ) → s < 8 → slotOf (wipe h c) c s ≡ 0
-  one-in s b = ap (λ (g : Heap). slotOf g c s) (wipe-plain h c empty) ∙ zeros-in 8 (h .slots) (8 * c) (8 * c + s) (omega arith) (omega arith)
-
-  one-occ : 8 * c + 8 ≤ length (h .slots) → (y : ℕ) → occ (suc y) (wipe h c .slots) + occ (suc y) (slotsOf (h .slots) c) ≡ occ (suc y) (h .slots)
-  unfolding slotsOf
-  one-occ room y = omega (arith, ap (λ (g : Heap). occ (suc y) (g .slots)) (wipe-plain h c empty), occ-cleared 8 (h .slots) (8 * c) y room)
+-- one cell's are held no more
+wiped-occ : (h : Heap) (c : ℕ) → PlainSlots (h .kind) (h .slots) → 8 * c + 8 ≤ length (h .slots)
+    → (y : ℕ) → occ (suc y) (wipe h c .slots) + occ (suc y) (slotsOf (h .slots) c) ≡ occ (suc y) (h .slots)
+unfolding slotsOf
+wiped-occ h c empty room y = omega (arith, ap (λ (g : Heap). occ (suc y) (g .slots)) (wipe-plain h c empty), occ-cleared 8 (h .slots) (8 * c) y room)
 
 pub emptied-all : (h : Heap) (l : List ℕ) → PlainSlots (h .kind) (h .slots) → ((x : ℕ) → occ x l ≤ 1)
     → ((x : ℕ) → 1 ≤ occ x l → 8 * x + 8 ≤ length (h .slots)) → Emptied h (wipeAll h l) l
@@ -153,12 +150,12 @@ emptied-all h (c ∷ l) empty once inside =
           by-cases (ℕ-discrete (occ x l) 0)
           (λ z.
           let e : x ≡ c = occ-single x c (omega (arith, sum x)) in
-          wiped g l .slotsOut x s b z ∙ ap (λ (d : ℕ). slotOf g d s) e ∙ one-in h c empty s b)
+          wiped g l .slotsOut x s b z ∙ ap (λ (d : ℕ). slotOf g d s) e ∙ wiped-in h c empty s b)
           (λ n. rest .slotsIn x s b (omega arith));
       slotsOcc = λ y. omega (
         arith,
         rest .slotsOcc y,
-        one-occ h c empty (inside c (omega (arith, occ-here c l))) y,
+        wiped-occ h c empty (inside c (omega (arith, occ-here c l))) y,
         heldBy-others h c l (omega (arith, once c, occ-here c l)) (suc y),
       );
     }

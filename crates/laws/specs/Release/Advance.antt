@@ -10,12 +10,12 @@ use lib.ListN.{length, getD, length-set, length-append, length-map}
 use lib.Seq.{getD-set-other, length-take-le}
 use Rattle.laws.specs.Lists.Tests.{none-of}
 use Rattle.rules.specs.Lists.{occ}
-use Rattle.rules.specs.Heap.{Heap, queued, running, kindOf, countOf, slotOf, entries, setCount, setQueue, enqueue, wipe}
+use Rattle.rules.specs.Heap.{queued, running, kindOf, countOf, entries, setCount, setQueue, enqueue, wipe}
 use Rattle.rules.specs.Release.{Work, decref, decrefs, lower, refzero, finalizable, withPending, retire}
-use Rattle.laws.specs.Lists.Tables.{set-here, zeros-in}
+use Rattle.laws.specs.Lists.Tables.{set-here}
 use Rattle.laws.specs.Lists.Occ.{occ-nil, occ-append, occ-absent, occ-single, occ-length}
 use Rattle.laws.specs.Sound.But.{PlainSlots}
-use Rattle.laws.specs.Freeing.{wiped-out, wipe-plain}
+use Rattle.laws.specs.Freeing.{wiped-out, wiped-in}
 use Rattle.laws.specs.Release.Balance.{Balanced, Advance}
 use Rattle.laws.specs.Release.Queue.{push-entries}
 use Rattle.laws.specs.Release.Decref.{unqueued, in-range, decref-balanced}
@@ -177,8 +177,7 @@ retire-advance w c empty u =
       used = λ d o. rw (occ-single d c o) u;
       noKind = λ d o. rw (occ-single d c o) (set-here (w .heap .kind) c);
       noFlags = λ d o. rw (occ-single d c o) (set-here (w .heap .flags) c);
-      noSlots = λ d k s o. rw (occ-single d c o)
-          (ap (λ (h : Heap). slotOf h c k) (wipe-plain (w .heap) c empty) ∙ zeros-in 8 (w .heap .slots) (8 * c) (8 * c + k) (omega arith) (omega arith));
+      noSlots = λ d k s o. rw (occ-single d c o) (wiped-in (w .heap) c empty k s);
       once = λ d. occ-length d (c ∷ []);
       freed = refl;
       entered = sym (append-nil _);

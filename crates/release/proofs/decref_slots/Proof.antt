@@ -1,6 +1,6 @@
 -- `release::decref_slots` meets its contract. The loop's invariant is `Going`; the measure is what is left of the part. Assumes nothing.
-use mathlib.Core.Path.{_≡_, refl, sym, ap, _∙_, subst⁻¹}
-use mathlib.Core.List.{List, [], append-nil}
+use mathlib.Core.Path.{_≡_, sym, ap, _∙_, subst⁻¹}
+use mathlib.Core.List.{List, []}
 use mathlib.Core.Bool.{true}
 use Prim.Native.Nat.{ℕ, _+_, _*_, _-_, _≤_}
 use native.Mathlib.Omega.{arith}
@@ -13,6 +13,7 @@ use Rattle.laws.specs.Sound.But.{PlainSlots}
 use Rattle.laws.specs.Freeing.{plain-none}
 use Rattle.laws.specs.Release.Decref.{decrefs-none}
 use Rattle.release.proofs.Due.{tail-fits}
+use Rattle.release.proofs.Step.{came-off-nothing}
 use Rattle.release.proofs.Run.{Going, go-start, go-due, go-on, go-end}
 use borrow.Author.Needs.{needs}
 use Rattle.release.proofs.decref_slots.Statement.{statement}
@@ -23,7 +24,7 @@ spared : (k f n s q t w : List ℕ) (tail c : ℕ) → PlainSlots k s → plain 
     → CameOff (decrefs (working k f n [] q t []) (slotsOf s c)) n q t w tail w tail
 spared k f n s q t w tail c empty e bound =
     subst⁻¹ (λ (v : Work). CameOff v n q t w tail w tail) (decrefs-none (working k f n [] q t []) (slotsOf s c) (plain-none k s c empty e))
-    (record { count = refl; queue = refl; control = refl; listed = sym (append-nil _); bound = bound })
+    (came-off-nothing k f n q t w tail bound)
 
 -- the part that the loop goes over is the cell's eight slots
 module _ (k f n₀ s q₀ t₀ w₀ : List ℕ) (tail c from end : ℕ) (first : from ≡ 8 * c) (last : end ≡ 8 * c + 8) (inside : 8 * c + 8 ≤ length s) where
