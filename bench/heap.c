@@ -103,8 +103,6 @@ static void decref(heap *h, worklist *w, unsigned r)
         h->count[c] = n - 1;
         return;
     }
-    if (n == 0)
-        return;
     if (h->flags[c] == 1 && h->kind[c] == 1) {
         h->queue[h->control[0]++] = r;
         return;
@@ -218,7 +216,7 @@ static vek_answer collect(heap *h)
         if (marks[c] == UNMARKED && h->kind[c] == VEK_OBJECT) {
             const uint16_t *s = h->slots + VEK_SLOTS * c;
             for (size_t i = 0; i < VEK_SLOTS; i++)
-                if (s[i] && h->count[s[i] - 1])
+                if (s[i])
                     h->count[s[i] - 1]--;
         }
     unsigned freed = 0;

@@ -44,7 +44,7 @@
 extern "C" {
 #endif
 
-#define VEK_VERSION "1.2.1"
+#define VEK_VERSION "1.2.2"
 
 /* Limits. */
 #define VEK_CELLS_MAX 1024

@@ -1,7 +1,8 @@
 #!/usr/bin/env python3
 """Compares the heap, its reading of lines and the program under test with an independent implementation of document 01 and of
-Q-1 to Q-3 in document 02, and shows by wrong edits of the independent one that the comparison sees each of them, or, where calls refuse the tables
-that would show it, the suite of the freeing step alone.
+Q-1 to Q-3 and Q-10 in document 02, and shows by wrong edits of the independent one that each of them is seen: by the comparison; by the
+independent heap itself, which stops where it meets a count at zero; or, where calls refuse the tables that would show it, by a suite that
+runs the independent heap alone.
 
 The last line printed is 'N passed, M failed'.
 """
@@ -168,9 +169,9 @@ def build_program(objects, target):
 
 
 def heap_edit_caught(objects, target):
-    """Caught by a difference that is reported, not by a crash or a hang."""
+    """Caught by a difference that is reported, or by the stop that is where a count is met at zero; not by a crash or a hang."""
     status, report = run_driver(build_compare(objects, target), SEEDS[0])
-    return status == 1 and report.startswith("difference:")
+    return status == 1 and report.startswith(("difference:", "stop:"))
 
 
 def program_edit_caught(objects, target, cases):
@@ -201,9 +202,18 @@ def without_edit(folder, objects, cases):
     yield no_difference("no edit, program", build_program(objects, folder / "program"), cases)
 
 
+def program_stops(folder, objects):
+    """Where a count is met at zero the independent program stops as well: in the example, if the slots of a cell are taken off twice."""
+    name, edited = edited_object(HERE / "edits" / "off_slots_twice.edit", folder)
+    outcome = feeding.run(build_program({**objects, name: edited}, folder / "stopped"), [known.EXAMPLE])
+    stopped = (outcome.status, outcome.errors) == (1, b"stop: the count of cell 1 is met at zero\n")
+    return "independent program, count met at zero", stopped
+
+
 def catch_edits(folder, cases):
     objects = build_objects(folder, [*driver_sources(), *shared_sources(), HERE / "program.c"])
     yield from without_edit(folder, objects, cases)
+    yield program_stops(folder, objects)
     paths = sorted((HERE / "edits").glob("*.edit"))
     with concurrent.futures.ThreadPoolExecutor(2) as pool:
         yield from pool.map(lambda path: try_edit(path, folder, objects, cases), paths)

@@ -79,16 +79,10 @@ static bool swept(const struct heap *heap, const struct marks *marks, size_t cel
 }
 
 /* "with no queueing and no cascade" */
-static void fall(struct heap *heap, uint16_t ref)
-{
-    if (ref != 0 && heap->count.at[ref - 1] != 0)
-        heap->count.at[ref - 1]--;
-}
-
-static void fall_slots(struct heap *heap, size_t cell)
+static void lower_slots(struct heap *heap, size_t cell)
 {
     for (size_t slot = 0; slot < SLOTS; slot++)
-        fall(heap, *slot_of(heap, cell, slot));
+        lower(heap, *slot_of(heap, cell, slot));
 }
 
 /* "first the references of all of them come off their targets' counts" */
@@ -96,7 +90,7 @@ static void sweep_references(struct heap *heap, const struct marks *marks)
 {
     for (size_t cell = 0; cell < heap->kind.len; cell++)
         if (swept(heap, marks, cell))
-            fall_slots(heap, cell);
+            lower_slots(heap, cell);
 }
 
 /* "only after that do all of them become all zeros" */

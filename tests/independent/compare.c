@@ -1,5 +1,5 @@
 /* Compares the heap under test with the independent one, call by call and entry by entry:  compare SEED
-   Ends with status 1 at the first difference, or if something that should be met wasn't. */
+   Ends with status 1 at the first difference, where a count is met at zero, or if something that should be met wasn't. */
 #include "coverage.h"
 #include "pair.h"
 #include "random.h"
@@ -17,6 +17,7 @@ int main(int argc, char **argv)
     numbers();
     damage();
     freeing();
+    stops();
     lengths();
     corners();
     chains();

@@ -65,6 +65,34 @@ static void make_largest(struct heap *heap)
     heap->count.at[0] = ROOTS + SLOTS * n + 1;
 }
 
+/* All cells are freed by one call: a write, a sweep or a FINISH. */
+static const struct step cleared[] = { { CLEAR, { 0 } }, { END, { 0 } } };
+static const struct step swept[] = { { STORE, { 0, 7, 0 } }, { CLEAR, { 0 } }, { COLLECT, { 0 } }, { END, { 0 } } };
+static const struct step finished[] = {
+    { COLLECT, { 0 } }, { CLEAR, { 0 } }, { START, { 0 } }, { FINISH, { 0 } }, { END, { 0 } },
+};
+
+static const struct step *const freed_at_once[] = { cleared, swept, finished };
+
+/* Cell 0, which is finalised and in root 0, holds the next one in all its slots, and so does each other but the last: a count
+   is met at 8 and at every number below, down to 1. */
+static void make_eightfold_chain(struct heap *heap)
+{
+    fill(&heap->kind, OBJECT);
+    fill(&heap->count, SLOTS);
+    heap->flags.at[0] = FINALIZER | FINALISED;
+    heap->count.at[0] = 1;
+    heap->roots.at[0] = 1;
+    for (size_t i = 0; i < heap->slots.len - SLOTS; i++)
+        heap->slots.at[i] = i / SLOTS + 2;
+}
+
+static void eightfold_chain(size_t cells)
+{
+    for (size_t i = 0; i < sizeof freed_at_once / sizeof *freed_at_once; i++)
+        made_corner("cells that hold the next one eight times", cells, make_eightfold_chain, freed_at_once[i]);
+}
+
 /* "no flags 3 become 1 in that COLLECT". The finalised cells hang from the one that waits and then runs. */
 static const struct step hang_from_queue[] = {
     { CLEAR, { 0 } }, { COLLECT, { 0 } }, { START, { 63 } }, { COLLECT, { 0 } }, { FINISH, { 0 } }, { COLLECT, { 0 } },
@@ -141,6 +169,8 @@ void corners(void)
     for (size_t i = 0; i < sizeof finishes / sizeof *finishes; i++)
         finish_corner(finishes[i]);
     made_corner("the largest count", CELLS_MAX, make_largest, with_largest);
+    eightfold_chain(2);
+    eightfold_chain(CELLS_MAX);
     finalised_chain(2);
     finalised_chain(CELLS_MAX);
     finalised_from_queue();

@@ -7,6 +7,17 @@ void incref(struct heap *heap, uint16_t ref)
         heap->count.at[ref - 1]++;
 }
 
+/* "The count falls by 1." Q-10 of document 02 leaves no rule for a count met at zero, since document 01's guard "would hide the
+   very fault I fear": there the run ends. */
+void lower(struct heap *heap, uint16_t ref)
+{
+    if (ref == 0)
+        return;
+    if (heap->count.at[ref - 1] == 0)
+        met_at_zero(ref - 1);
+    heap->count.at[ref - 1]--;
+}
+
 /* The cell joins the end of the queue with its artificial bump. */
 void enqueue(struct run *run, size_t cell)
 {
@@ -27,13 +38,10 @@ static void refzero(struct run *run, size_t cell)
         run->work[run->joined++] = cell;
 }
 
-/* "The count falls by 1. ... A guard stands here: a count met at zero is left at zero." */
 static void decref(struct run *run, uint16_t ref)
 {
-    if (ref == 0 || run->heap->count.at[ref - 1] == 0)
-        return;
-    run->heap->count.at[ref - 1]--;
-    if (run->heap->count.at[ref - 1] == 0)
+    lower(run->heap, ref);
+    if (ref != 0 && run->heap->count.at[ref - 1] == 0)
         refzero(run, ref - 1);
 }
 

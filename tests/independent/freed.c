@@ -4,11 +4,17 @@
 
 #include <string.h>
 
-/* What the landmarks tell apart among freed cells. */
-enum sort { A_STRING, A_BUFFER, A_FULL_OBJECT, SORTS, OTHER = SORTS };
+/* What the landmarks tell apart among freed cells, and among those that freed cells held: with one slot or with several. */
+enum sort { A_STRING, A_BUFFER, A_FULL_OBJECT, ONE_FREED, SEVERAL_FREED, ONE_USED, SEVERAL_USED, SORTS, OTHER = SORTS };
 
-static const enum landmark by_cascade[SORTS] = { CASCADE_FREES_STRING, CASCADE_FREES_BUFFER, CASCADE_FREES_FULL_OBJECT };
-static const enum landmark by_collect[SORTS] = { COLLECT_FREES_STRING, COLLECT_FREES_BUFFER, COLLECT_FREES_FULL_OBJECT };
+static const enum landmark by_cascade[SORTS] = {
+    CASCADE_FREES_STRING, CASCADE_FREES_BUFFER, CASCADE_FREES_FULL_OBJECT, CASCADE_TAKES_ONE_OFF_FREED,
+    CASCADE_TAKES_SEVERAL_OFF_FREED, CASCADE_TAKES_ONE_OFF_USED, CASCADE_TAKES_SEVERAL_OFF_USED,
+};
+static const enum landmark by_collect[SORTS] = {
+    COLLECT_FREES_STRING, COLLECT_FREES_BUFFER, COLLECT_FREES_FULL_OBJECT, COLLECT_TAKES_ONE_OFF_FREED,
+    COLLECT_TAKES_SEVERAL_OFF_FREED, COLLECT_TAKES_ONE_OFF_USED, COLLECT_TAKES_SEVERAL_OFF_USED,
+};
 
 void before_call(struct before *before, const struct heap *heap)
 {
@@ -41,22 +47,31 @@ static enum sort sort_of(const struct before *before, size_t cell)
     }
 }
 
-/* Which cells a freed one held; no freed cell's slots are written by the call before it is freed. */
-static void find_held(bool held[CELLS_MAX], const struct before *before, const struct heap *heap)
+/* How many slots of freed cells held each cell; no freed cell's slots are written by the call before it is freed. */
+static void find_held(unsigned held[CELLS_MAX], const struct before *before, const struct heap *heap)
 {
     for (size_t i = 0; i < heap->slots.len; i++)
         if (before->slots[i] != 0 && was_freed(before, heap, i / SLOTS))
-            held[before->slots[i] - 1] = true;
+            held[before->slots[i] - 1]++;
 }
 
-/* In a sweep every freed cell counts; elsewhere those that a cell freed by the same call held. */
+static enum sort sort_of_held(unsigned held, bool freed)
+{
+    static const enum sort sorts[2][2] = { { ONE_USED, SEVERAL_USED }, { ONE_FREED, SEVERAL_FREED } };
+    return held == 0 ? OTHER : sorts[freed][held > 1];
+}
+
+/* In a sweep the kind of every freed cell counts; elsewhere of those that a cell freed by the same call held. */
 static void find_sorts(bool met[SORTS + 1], const struct before *before, const struct heap *heap, enum op op)
 {
-    bool held[CELLS_MAX] = { false };
+    unsigned held[CELLS_MAX] = { 0 };
     find_held(held, before, heap);
-    for (size_t cell = 0; cell < heap->kind.len; cell++)
-        if (was_freed(before, heap, cell) && (op == COLLECT || held[cell]))
+    for (size_t cell = 0; cell < heap->kind.len; cell++) {
+        bool freed = was_freed(before, heap, cell);
+        met[sort_of_held(held[cell], freed)] = true;
+        if (freed && (op == COLLECT || held[cell] != 0))
             met[sort_of(before, cell)] = true;
+    }
 }
 
 void note_freed(const struct before *before, const struct heap *heap, enum op op)

@@ -1,4 +1,4 @@
-/* Notes what a call frees, by kind and by how: in a cascade or in a sweep. */
+/* Notes what a call frees, by kind, and what it takes references off, both by how: in a cascade or in a sweep. */
 #ifndef FREED_H
 #define FREED_H
 

@@ -113,7 +113,7 @@ static uint16_t freed(const struct heap *heap, const uint16_t *kind_before)
     return cells;
 }
 
-static struct answer perform(const struct request *request)
+struct answer perform(const struct request *request)
 {
     struct run run = { .heap = request->heap };
     const struct table *kind = &request->heap->kind;

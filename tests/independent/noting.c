@@ -5,20 +5,27 @@
 
 #include <string.h>
 
+static void note_clear(const struct heap *heap, size_t root)
+{
+    uint16_t held = root < ROOTS ? heap->roots.at[root] : 0;
+    if (held != 0)
+        coverage_landmark(heap->count.at[held - 1] == 1 ? CLEAR_OF_ONLY_REFERENCE : CLEAR_OF_ONE_OF_SEVERAL);
+}
+
 static void note_finish(const struct heap *heap)
 {
     uint16_t running = heap->control.at[RUNNING], head = heap->queue.at[0];
     if (running == 0)
         return;
     uint16_t held = heap->roots.at[running - 1];
-    if (held != head)
-        coverage_landmark(held == 0 ? FINISH_WITH_EMPTY_ROOT : FINISH_WITH_OTHER_IN_ROOT);
-    if (heap->count.at[head - 1] > 1 + (held == head))
-        coverage_landmark(FINISH_SURVIVED);
+    coverage_landmark(held == head ? FINISH_WITH_HEAD_IN_ROOT : held == 0 ? FINISH_WITH_EMPTY_ROOT : FINISH_WITH_OTHER_IN_ROOT);
+    coverage_landmark(heap->count.at[head - 1] > 1 + (held == head) ? FINISH_SURVIVED : FINISH_UNHELD);
 }
 
-static void note_situation(enum op op, const struct heap *heap)
+static void note_situation(enum op op, size_t root, const struct heap *heap)
 {
+    if (op == CLEAR)
+        note_clear(heap, root);
     if (op == FINISH)
         note_finish(heap);
     if (heap->control.at[LENGTH] == heap->kind.len)
@@ -65,7 +72,7 @@ struct answer noted_call(struct pair *pair, enum op op, size_t a, size_t b, size
 {
     struct before before;
     before_call(&before, &pair->ours);
-    note_situation(op, &pair->ours);
+    note_situation(op, a, &pair->ours);
     struct answer answer = op == COLLECT ? noted_collect(pair) : pair_call(pair, op, a, b, c);
     if (answer.freed != 0)
         note_freed(&before, &pair->ours, op);

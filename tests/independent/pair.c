@@ -39,6 +39,24 @@ unsigned long pair_step(void)
     return ++place.step;
 }
 
+/* Begins a report: of what kind it is, and where. */
+static void tell_place(const char *kind)
+{
+    printf("%s: seed %llu, part %s, sequence %lu, call %lu: ", kind, place.seed, place.part, place.sequence, place.step);
+}
+
+void pair_tell_place(void)
+{
+    tell_place("difference");
+}
+
+void met_at_zero(size_t cell)
+{
+    tell_place("stop");
+    printf("the count of cell %zu is met at zero\n", cell);
+    exit(1);
+}
+
 bool pair_lends_null(void)
 {
     return place.sequence % 2 == 0;
@@ -89,8 +107,8 @@ void demand(bool holds, const char *what)
 {
     if (holds)
         return;
-    printf("both heaps fail: seed %llu, part %s, sequence %lu, call %lu: %s\n", place.seed, place.part,
-           place.sequence, place.step, what);
+    tell_place("both heaps fail");
+    printf("%s\n", what);
     exit(1);
 }
 
@@ -107,11 +125,6 @@ struct pair pair_made(const char *part, size_t n, void (*make)(struct heap *))
 static void print_answer(const char *who, struct answer answer)
 {
     printf("  %s answers refused %u, freed %u, queued %u, cell %u\n", who, answer.refused, answer.freed, answer.queued, answer.cell);
-}
-
-void pair_tell_place(void)
-{
-    printf("difference: seed %llu, part %s, sequence %lu, call %lu: ", place.seed, place.part, place.sequence, place.step);
 }
 
 /* With what call, and what differs after it; nothing if nothing does. */

@@ -1,5 +1,5 @@
 /* Two heaps with equal tables: the independent one and the one under test. Every call goes to both, and the first
-   difference ends the program with a report. */
+   difference ends the program with a report. So does a count that the independent heap meets at zero. */
 #ifndef PAIR_H
 #define PAIR_H
 

@@ -1,4 +1,4 @@
-/* What the files of the independent heap share among themselves, and with the suite of the freeing step. */
+/* What the files of the independent heap share among themselves, and with the suites of single steps. */
 #ifndef PARTS_H
 #define PARTS_H
 
@@ -34,10 +34,14 @@ void free_cell(struct heap *heap, size_t cell);
 
 /* count.c: "Taking off" and its opposite. */
 void incref(struct heap *heap, uint16_t ref);
+void lower(struct heap *heap, uint16_t ref);
 void enqueue(struct run *run, size_t cell);
 void take_off(struct run *run, uint16_t ref);
 
 /* collect.c: "Collecting". */
 void collect(struct run *run);
+
+/* heap.c: one of the eight calls, on tables and numbers for which no refusal is asked. */
+struct answer perform(const struct request *request);
 
 #endif

@@ -7,6 +7,12 @@
 
 enum { CELLS = 256 };
 
+void met_at_zero(size_t cell)
+{
+    fprintf(stderr, "stop: the count of cell %zu is met at zero\n", cell);
+    exit(1);
+}
+
 static struct text read_all(FILE *file)
 {
     size_t room = 1 << 16, len = 0;

@@ -16,5 +16,6 @@ void noise(void);   /* random tables, sound and not */
 void bits(void);    /* lines that arrive in bits, cut in every way */
 void readers(void); /* readers with any numbers in them */
 void freeing(void); /* the freeing step of the independent heap alone, on any tables */
+void stops(void);   /* counts met at zero by the independent heap alone, in tables that calls refuse */
 
 #endif

@@ -3,6 +3,7 @@ pub mod Step
 pub mod Events
 pub mod Sweep
 pub mod Rescue
+pub mod Counts
 pub mod First
 pub mod Second
 pub mod Third

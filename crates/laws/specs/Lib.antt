@@ -5,5 +5,6 @@ pub mod Release
 pub mod Marking
 pub mod Reach
 pub mod Collect
+pub mod Counts
 pub mod Calls
 pub mod Demand

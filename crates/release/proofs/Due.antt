@@ -20,12 +20,9 @@ module _ (k f n q t work : List ℕ) (tail c : ℕ) (d : ToComeOff k f n q t wor
   pub range : c < length k
   range = in-range _ _ _ _ c (d .balanced)
 
-  -- the guard against a count of zero is never needed
-  pub not-zero : 1 ≤ getD n c 0
-  not-zero = count-above-zero _ _ _ _ c (d .balanced)
-
+  -- the reference is counted, so that no count of zero is met
   pub last-one : getD n c 0 ≤ 1 → getD n c 0 ≡ 1
-  last-one h = omega (arith, not-zero)
+  last-one h = omega (arith, count-above-zero _ _ _ _ c (d .balanced))
 
   pub queue-free : getD n c 0 ≡ 1 → getD t 0 0 < length q
   queue-free e = omega (arith, queue-room _ _ _ _ c (d .balanced) e, d .balanced .fit .queue-size)

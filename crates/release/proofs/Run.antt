@@ -133,12 +133,16 @@ module _ (k f n₀ s q₀ t₀ w₀ : List ℕ) (tail from end : ℕ) where
     toward = toward-here _ _;
   }
 
-  module _ (n q t w : List ℕ) (x i : ℕ) (g : Going k f n₀ s q₀ t₀ w₀ tail from end n q t w x i) (more : i < end) where
-    next-due : ToComeOff k f n q t w x (getD s i 0 ∷ slice (suc i) end s)
-    next-due = subst (ToComeOff k f n q t w x) (slice-cons i end s 0 more (g .inside)) (g .due)
+  -- the code reads entry j, which is the one at i
+  module _ (n q t w : List ℕ) (x i : ℕ) (g : Going k f n₀ s q₀ t₀ w₀ tail from end n q t w x i) (more : i < end) (j : ℕ) (is : j ≡ i) where
+    left : slice i end s ≡ getD s j 0 ∷ slice (suc i) end s
+    left = slice-cons i end s 0 more (g .inside) ∙ ap (λ (y : ℕ). getD s y 0 ∷ slice (suc i) end s) (sym is)
 
-    -- the reference at i is due
-    pub go-due : ToComeOff k f n q t w x (getD s i 0 ∷ [])
+    next-due : ToComeOff k f n q t w x (getD s j 0 ∷ slice (suc i) end s)
+    next-due = subst (ToComeOff k f n q t w x) left (g .due)
+
+    -- it is due
+    pub go-due : ToComeOff k f n q t w x (getD s j 0 ∷ [])
     go-due = record {
       serving = next-due .serving;
       done = next-due .done;
@@ -149,7 +153,7 @@ module _ (k f n₀ s q₀ t₀ w₀ : List ℕ) (tail from end : ℕ) where
       balanced = next-due .balanced;
     }
 
-    pub go-on : (n′ q′ t′ w′ : List ℕ) (x′ : ℕ) → CameOff (decref (working k f n [] q t []) (getD s i 0)) n′ q′ t′ w x w′ x′
+    pub go-on : (n′ q′ t′ w′ : List ℕ) (x′ : ℕ) → CameOff (decref (working k f n [] q t []) (getD s j 0)) n′ q′ t′ w x w′ x′
         → length n′ ≡ length n → length q′ ≡ length q → length t′ ≡ length t → length w′ ≡ length w
         → Going k f n₀ s q₀ t₀ w₀ tail from end n′ q′ t′ w′ x′ (i + 1)
     go-on n′ q′ t′ w′ x′ e a b c d = record {
@@ -159,13 +163,13 @@ module _ (k f n₀ s q₀ t₀ w₀ : List ℕ) (tail from end : ℕ) where
       work-kept = d ∙ g .work-kept;
       within = omega arith;
       inside = g .inside;
-      due = rw add-one (due-step k f n q t (getD s i 0) n′ q′ t′ w x w′ x′ e (slice (suc i) end s) next-due d);
+      due = rw add-one (due-step k f n q t (getD s j 0) n′ q′ t′ w x w′ x′ e (slice (suc i) end s) next-due d);
       toward = rw add-one (toward-trans _ _ _ _ _ _
           (subst
           (λ (l : List ℕ). Toward (decrefs (working k f n₀ [] q₀ t₀ []) (slice from end s)) (take tail w₀) (decrefs (working k f n [] q t []) l) (take x w))
-          (slice-cons i end s 0 more (g .inside))
+          left
           (g .toward))
-          (toward-step k f n q t (getD s i 0) n′ q′ t′ w x w′ x′ e (slice (suc i) end s)));
+          (toward-step k f n q t (getD s j 0) n′ q′ t′ w x w′ x′ e (slice (suc i) end s)));
     }
 
   -- at the end of the part

@@ -11,7 +11,7 @@ use lib.Dec.{eqb}
 use lib.ListN.{length, getD, take, set}
 use lib.Seq.{set-getD, take-suc-set}
 use Rattle.rules.specs.Heap.{tables, setCount, setQueue, enqueue}
-use Rattle.rules.specs.Release.{Work, decref, lower, refzero, finalizable}
+use Rattle.rules.specs.Release.{Work, decremented, decref, lower, refzero, finalizable}
 use Rattle.laws.specs.Lists.Tests.{and-join, and-no}
 use Rattle.release.specs.Steps.{working, CameOff}
 
@@ -36,16 +36,16 @@ module _ (k f n q t before : List ℕ) (tail : ℕ) (bound : tail ≤ 1024) wher
       subst⁻¹ (λ (x : ℕ). CameOff (decref (working k f n [] q t []) x) n q t before tail before tail) e came-off-nothing
 
   module _ (r : ℕ) (some : r ≡ 0 → ⊥) where
-    at : (m : ℕ) → getD n (r - 1) 0 ≡ m → decref (working k f n [] q t []) r ≡ lower (working k f n [] q t []) (r - 1) m
+    at : (m : ℕ) → getD n (r - 1) 0 ≡ m → decref (working k f n [] q t []) r ≡ lower (working k f n [] q t []) (r - 1) (decremented m)
     unfolding decref
     at m e =
         let s : r ≡ suc (r - 1) = omega arith in
-        ap (decref (working k f n [] q t [])) s ∙ ap (lower (working k f n [] q t []) (r - 1)) e
+        ap (decref (working k f n [] q t [])) s ∙ ap (λ (x : ℕ). lower (working k f n [] q t []) (r - 1) (decremented x)) e
 
     -- the count stays above zero
     pub many : 1 < getD n (r - 1) 0
         → CameOff (decref (working k f n [] q t []) r) (set n (r - 1) (getD n (r - 1) 0 - 1)) q t before tail before tail
-    unfolding lower setCount
+    unfolding decremented lower setCount
     many h =
         let x : ℕ = getD n (r - 1) 0 in
         let e : getD n (r - 1) 0 ≡ suc (suc (x - 2)) = omega arith in
@@ -57,7 +57,7 @@ module _ (k f n q t before : List ℕ) (tail : ℕ) (bound : tail ≤ 1024) wher
     pub at-zero : (n′ q′ t′ after : List ℕ) (next : ℕ) → getD n (r - 1) 0 ≡ 1
         → CameOff (refzero (finalizable (tables k f n [] [] q t) (r - 1)) (working k f n [] q t []) (r - 1)) n′ q′ t′ before tail after next
         → CameOff (decref (working k f n [] q t []) r) n′ q′ t′ before tail after next
-    unfolding lower
+    unfolding decremented lower
     at-zero n′ q′ t′ after next e l = subst⁻¹ (λ (w : Work). CameOff w n′ q′ t′ before tail after next) (at 1 e) l
 
     -- the cell joins the queue

@@ -74,10 +74,7 @@ fn decref(
         count[c] = n - 1;
         return tail;
     }
-    // A guard that no sound heap comes to: a count met at zero is left at zero.
-    if n == 0 {
-        return tail;
-    }
+    // The reference is counted, so that n is 1.
     refzero(kind, flags, count, queue, control, work, tail, r)
 }
 

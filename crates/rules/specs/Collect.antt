@@ -1,13 +1,13 @@
 -- Document 01, "Collecting", with Q-2 of document 02: marking, queueing, two rounds of sweeping, and the rescued.
 -- Assumes nothing: these are definitions.
-use Prim.Native.Nat.{ℕ, zero, suc, _-_}
+use Prim.Native.Nat.{ℕ, zero, suc}
 use mathlib.Core.List.{List, [], _∷_, _++_, map}
 use mathlib.Core.Bool.{not, _&&_, cond}
 use lib.Dec.{eqb}
 use lib.ListN.{getD, replicate}
 use Rattle.rules.specs.Lists.{select}
 use Rattle.rules.specs.Heap.{Heap, cells, queued, kindOf, flagsOf, countOf, slotsOf, entries, setCount, setFlags, wipe, enqueue}
-use Rattle.rules.specs.Release.{Work, finalizable}
+use Rattle.rules.specs.Release.{Work, finalizable, decremented}
 use Rattle.rules.specs.Marking.{markFrom}
 
 -- "Mark everything that roots and queue reach, the running cell included."
@@ -31,11 +31,11 @@ keptMarks h = markFrom (h .slots) (reachedMarks h) (map suc (unreachedFinalizabl
 unfoldable pub garbage : Heap → List ℕ
 garbage h = select (λ c. not (eqb (kindOf h c) 0) && eqb (getD (keptMarks h) c 0) 0) (cells h)
 
--- one reference comes off, "with no queueing and no cascade"; a count met at zero is left at zero
+-- references come off one after the other, "with no queueing and no cascade"
 unfoldable pub lowerAll : Heap → List ℕ → Heap
 lowerAll h [] = h
 lowerAll h (zero ∷ l) = lowerAll h l
-lowerAll h (suc c ∷ l) = lowerAll (setCount h c (countOf h c - 1)) l
+lowerAll h (suc c ∷ l) = lowerAll (setCount h c (decremented (countOf h c))) l
 
 -- "first the references of all of them come off their targets' counts"
 unfoldable pub unlinkAll : Heap → List ℕ → Heap

@@ -16,5 +16,6 @@ pub mod Demand2
 pub mod Demand3
 pub mod Rescue
 pub mod Freeing
+pub mod Counts
 pub mod Witness
 pub mod CounterBook

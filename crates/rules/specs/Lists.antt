@@ -25,6 +25,11 @@ unfoldable pub occ : ℕ → List ℕ → ℕ
 occ x [] = 0
 occ x (y ∷ l) = cond (eqb x y) 1 0 + occ x l
 
+-- all the numbers together
+unfoldable pub sum : List ℕ → ℕ
+sum [] = 0
+sum (x ∷ l) = x + sum l
+
 -- does no number stand twice
 unfoldable pub distinct : List ℕ → Bool
 distinct [] = true

@@ -1,4 +1,5 @@
--- Document 01, "Taking off": one reference comes off a cell, and the work list of the cells whose count fell to zero.
+-- Document 01, "Taking off", without its guard, by Q-10 of document 02: one reference comes off a cell, and the work list of the cells whose count fell
+-- to zero.
 -- Assumes nothing: these are definitions.
 use Prim.Native.Nat.{ℕ, zero, suc}
 use mathlib.Core.List.{List, [], _∷_, _++_}
@@ -34,16 +35,21 @@ unfoldable pub refzero : Bool → Work → ℕ → Work
 refzero true w c = record { heap = setCount (enqueue (w .heap) c) c 1; pending = w .pending; freed = w .freed; queued = w .queued ++ (c ∷ []) }
 refzero false w c = record { heap = setCount (w .heap) c 0; pending = w .pending ++ (c ∷ []); freed = w .freed; queued = w .queued }
 
--- "The count falls by 1": from the given one. "A guard stands here: a count met at zero is left at zero."
+-- "The count falls by 1." From a sound heap no take-off meets a count of zero (`Counts`). A definition has to say something there all the same, and any
+-- count would hide the fault: so it says none, but a number that no 16-bit table holds, and no program can take that step
+unfoldable pub decremented : ℕ → ℕ
+decremented zero = 65536
+decremented (suc n) = n
+
+-- the count of c has fallen to the given one
 unfoldable pub lower : Work → ℕ → ℕ → Work
-lower w c zero = w
-lower w c (suc zero) = refzero (finalizable (w .heap) c) w c
-lower w c (suc (suc n)) = record { heap = setCount (w .heap) c (suc n); pending = w .pending; freed = w .freed; queued = w .queued }
+lower w c zero = refzero (finalizable (w .heap) c) w c
+lower w c (suc n) = record { heap = setCount (w .heap) c (suc n); pending = w .pending; freed = w .freed; queued = w .queued }
 
 -- a reference comes off what it names, if anything
 unfoldable pub decref : Work → ℕ → Work
 decref w zero = w
-decref w (suc c) = lower w c (countOf (w .heap) c)
+decref w (suc c) = lower w c (decremented (countOf (w .heap) c))
 
 unfoldable pub decrefs : Work → List ℕ → Work
 decrefs w [] = w

@@ -1,5 +1,6 @@
 pub mod Joins
 pub mod Lowers
+pub mod Unlinks
 pub mod Wipes
 pub mod Rescues
 pub mod Whole

@@ -4,7 +4,7 @@ use Prim.Native.Nat.{ℕ, zero, suc, _+_, _-_, _≤_}
 use native.Mathlib.Omega.{arith}
 use mathlib.Core.List.{List, [], _∷_, _++_, map}
 use mathlib.Core.Bool.{cond}
-use mathlib.Core.Path.{_≡_, refl, sym, ap, subst, _∙_}
+use mathlib.Core.Path.{_≡_, refl, sym, ap, subst, subst⁻¹, _∙_}
 use lib.ListN.{length, getD, take, drop, replicate, length-replicate}
 use lib.Seq.{take-add, drop-at, length-take-le}
 use lib.Dec.{eqb}
@@ -20,7 +20,9 @@ use Rattle.laws.specs.Reach.Marked.{slots-within, roots-within, entries-within,
 use Rattle.laws.specs.Sound.But.{PlainSlots, SoundBut}
 use Rattle.laws.specs.Sound.Facts.{facts-ready, largest-count}
 use Rattle.laws.specs.Collect.Phases.{Enqueued, enqueued}
+use Rattle.laws.specs.Collect.Unlinking.{SlotsCovered}
 use Rattle.laws.specs.Collect.Live.{due-only, due-once, due-room, due-within, kept-length}
+use Rattle.laws.specs.Collect.Left.{unlink-covered}
 use Rattle.sweep.specs.Phases.{isRescued, dueOf, garbageOf, rescuedOf, QueueRoom, Queued, Unlinked, Same, Freed, Decided, MarkedQueued, rounds, Swept, Collected}
 
 module _ {h : Heap} (s : SoundBut h []) where
@@ -103,15 +105,28 @@ rounds-join {k} {f} {m = m} a b = record {
 
 -- ---- COLLECT
 
-module _ {h : Heap} {n₁ q₁ w₁ m : List ℕ} {r : ℕ} (a : MarkedQueued h (tables (h .kind) (h .flags) n₁ (h .slots) (h .roots) q₁ w₁) m r)
-    {k′ f′ n′ s′ : List ℕ} {freed : ℕ} (b : Swept (h .kind) (h .flags) n₁ (h .slots) m k′ f′ n′ s′ freed) (size : length f′ ≡ cells h) where
+module _ {h : Heap} {n₁ q₁ w₁ m : List ℕ} {r : ℕ} (a : MarkedQueued h (tables (h .kind) (h .flags) n₁ (h .slots) (h .roots) q₁ w₁) m r) where
   dead : garbageOf (h .kind) m ≡ garbage h
   unfolding garbage
   dead = ap (λ (x : List ℕ). garbageOf (h .kind) x) (a .marked)
 
+  -- what the sweep asks, after the queueing: above all, that the references of the garbage are counted
+  pub sweep-asks : SoundBut h [] → length n₁ ≡ length (h .count)
+      → Same (h .kind) (h .flags) n₁ (h .slots) × (((length m ≡ length (h .kind)) × (length (h .kind) ≤ 1024))
+      × (PlainSlots (h .kind) (h .slots) × SlotsCovered (h .slots) n₁ (garbageOf (h .kind) m)))
+  sweep-asks s e = (
+    record { flags-size = s .fit .flags-size; count-size = e ∙ s .fit .count-size; slots-size = s .slots },
+    (
+      (ap length (a .marked) ∙ kept-length h s, s .fit .small),
+      (s .shaped .plainSlots, rw dead (subst⁻¹ (λ (g : Heap). SlotsCovered (g .slots) (g .count) (garbage h)) (a .heap) (unlink-covered h s))),
+    ),
+  )
+
+module _ {h : Heap} {n₁ q₁ w₁ m : List ℕ} {r : ℕ} (a : MarkedQueued h (tables (h .kind) (h .flags) n₁ (h .slots) (h .roots) q₁ w₁) m r)
+    {k′ f′ n′ s′ : List ℕ} {freed : ℕ} (b : Swept (h .kind) (h .flags) n₁ (h .slots) m k′ f′ n′ s′ freed) (size : length f′ ≡ cells h) where
   swept-is : tables k′ f′ n′ s′ (h .roots) q₁ w₁ ≡ swept h
   unfolding swept
-  swept-is = b .heap (h .roots) q₁ w₁ ∙ (λ i. rounds (a .heap i) (dead i))
+  swept-is = b .heap (h .roots) q₁ w₁ ∙ (λ i. rounds (a .heap i) (dead a i))
 
   rescued-are : cond (eqb (queued h) 0) (rescuedOf f′ m) [] ≡ rescued h
   unfolding rescued
@@ -123,17 +138,8 @@ module _ {h : Heap} {n₁ q₁ w₁ m : List ℕ} {r : ℕ} (a : MarkedQueued h 
   collect-joins x e =
       let saved = ap (λ (w : ℕ). cond (eqb w 0) (rescuedOf f′ m) []) e ∙ rescued-are in record {
         heap = x .restored .heap k′ n′ s′ (h .roots) q₁ w₁ ∙ (λ i. rescueAll (swept-is i) (saved i));
-        answered = let y = b .many ∙ ap length dead in λ i. answers 0 (y i) (a .many i) 0;
+        answered = let y = b .many ∙ ap length (dead a) in λ i. answers 0 (y i) (a .many i) 0;
       }
-
--- what the sweep asks, after the queueing
-module _ {h : Heap} (s : SoundBut h []) {n₁ q₁ w₁ m : List ℕ} {r : ℕ} (a : MarkedQueued h (tables (h .kind) (h .flags) n₁ (h .slots) (h .roots) q₁ w₁) m r) where
-  pub sweep-asks : length n₁ ≡ length (h .count) → Same (h .kind) (h .flags) n₁ (h .slots)
-      × (((length m ≡ length (h .kind)) × (length (h .kind) ≤ 1024)) × (Within (length (h .kind)) (h .slots) × PlainSlots (h .kind) (h .slots)))
-  sweep-asks e = (
-    record { flags-size = s .fit .flags-size; count-size = e ∙ s .fit .count-size; slots-size = s .slots },
-    ((ap length (a .marked) ∙ kept-length h s, s .fit .small), (slots-within h s, s .shaped .plainSlots)),
-  )
 
 -- marks that are all unmarked: their number, and the part that is lent
 pub zeros-length : (k : ℕ) (m : List ℕ) → m ≡ replicate k 0 → length m ≡ k

@@ -23,8 +23,8 @@ ghost use Rattle.rules.specs.Sound.{Ready};
 ghost use Rattle.rules.specs.Calls.{Did};
 ghost use Rattle.rules.specs.Refusals.Call.{COLLECT};
 ghost use Rattle.laws.specs.Sound.But.{PlainSlots, SoundBut};
-ghost use Rattle.laws.specs.Marking.Marks.{Within};
-ghost use Rattle.sweep.specs.Phases.{Same, MarkedQueued, Swept, Collected};
+ghost use Rattle.laws.specs.Collect.Unlinking.{SlotsCovered};
+ghost use Rattle.sweep.specs.Phases.{garbageOf, Same, MarkedQueued, Swept, Collected};
 
 // Marks what roots and queue reach; what is left and wants its finalizer joins the queue; marks from there. Answers how many joined.
 fn mark_and_queue(
@@ -61,8 +61,8 @@ fn sweep_unmarked(
 ) -> u16
     requires { ⌜ Same (now kind) (now flags) (now count) (now slots) ⌝ }
     requires { ⌜ (length (now marks) ≡ length (now kind)) × (length (now kind) ≤ 1024) ⌝ }
-    requires { ⌜ Within (length (now kind)) (now slots) ⌝ }
     requires { ⌜ PlainSlots (now kind) (now slots) ⌝ }
+    requires { ⌜ SlotsCovered (now slots) (now count) (garbageOf (now kind) (now marks)) ⌝ }
     ensures { λ r. ⌜ Swept (now (kind .entry)) (now (flags .entry)) (now (count .entry)) (now (slots .entry)) (now (marks .entry))
         (now (kind .exit)) (now (flags .exit)) (now (count .exit)) (now (slots .exit)) r ⌝ }
 {

@@ -1,36 +1,33 @@
-// The first round: references of unmarked cells come off their targets' counts.
+// The first round: references of unmarked cells come off their targets' counts. Each of them is counted, so that no count is met at zero.
 use crate::cells::is_garbage;
 use freeing::is_plain;
 use numbers::cell::Cell;
 use numbers::cell::CellNumber;
-ghost use Prim.Native.Nat.{_≤_, _<_};
+ghost use Prim.Native.Nat.{_+_, _*_, _≤_, _<_};
 ghost use mathlib.Core.List.{[], _∷_};
 ghost use mathlib.Core.Path.{_≡_};
 ghost use lib.ListN.{length};
 ghost use Rattle.rules.specs.Heap.{slotsOf};
 ghost use Rattle.laws.specs.Sound.But.{PlainSlots};
-ghost use Rattle.laws.specs.Marking.Marks.{Slots};
+ghost use Rattle.laws.specs.Collect.Unlinking.{Covered, SlotsCovered};
 ghost use Rattle.sweep.specs.Phases.{isGarbage, garbageOf, only, TakenOff, Unlinked};
 
-// A reference comes off its target's count, with no queueing and no cascade. The guard: a count met at zero is left at zero.
+// A reference comes off its target's count, with no queueing and no cascade.
 fn lower(count: &mut [u16], reference: u16)
-    requires { ⌜ reference ≤ length (now count) ⌝ }
+    requires { ⌜ Covered (now count) (reference ∷ []) ⌝ }
     ensures { λ _. ⌜ TakenOff (now (count .entry)) (reference ∷ []) (now (count .exit)) ⌝ }
 {
     if reference == 0 {
         return;
     }
     let c = reference as usize - 1;
-    if count[c] == 0 {
-        return;
-    }
     count[c] = count[c] - 1;
 }
 
 // The eight slots of a cell come off their targets' counts.
 fn lower_targets(count: &mut [u16], slots: &[u16], cell: Cell)
-    requires { ⌜ Slots (now slots) (length (now count)) ⌝ }
-    requires { ⌜ cell .0 < length (now count) ⌝ }
+    requires { ⌜ 8 * cell .0 + 8 ≤ length (now slots) ⌝ }
+    requires { ⌜ Covered (now count) (slotsOf (now slots) (cell .0)) ⌝ }
     ensures { λ _. ⌜ TakenOff (now (count .entry)) (slotsOf (now (slots .entry)) (cell .0)) (now (count .exit)) ⌝ }
 {
     for k in 0..8 {
@@ -40,10 +37,10 @@ fn lower_targets(count: &mut [u16], slots: &[u16], cell: Cell)
 
 // The slots of a cell come off, if it is garbage.
 fn unlink_cell(kind: &[u16], count: &mut [u16], slots: &[u16], marks: &[u8], cell: Cell)
-    requires { ⌜ (length (now kind) ≡ length (now count)) × (length (now marks) ≡ length (now count)) ⌝ }
-    requires { ⌜ Slots (now slots) (length (now count)) ⌝ }
-    requires { ⌜ cell .0 < length (now count) ⌝ }
+    requires { ⌜ (cell .0 < length (now kind)) × (cell .0 < length (now marks)) ⌝ }
+    requires { ⌜ 8 * cell .0 + 8 ≤ length (now slots) ⌝ }
     requires { ⌜ PlainSlots (now kind) (now slots) ⌝ }
+    requires { ⌜ SlotsCovered (now slots) (now count) (only (isGarbage (now kind) (now marks) (cell .0)) (cell .0)) ⌝ }
     ensures { λ _. ⌜ Unlinked (now (slots .entry)) (now (count .entry)) (only (isGarbage (now (kind .entry)) (now (marks .entry)) (cell .0)) (cell .0)) (now (count .exit)) ⌝ }
 {
     if !is_garbage(kind, marks, cell) {
@@ -58,9 +55,9 @@ fn unlink_cell(kind: &[u16], count: &mut [u16], slots: &[u16], marks: &[u8], cel
 
 // The slots of all garbage come off.
 pub fn unlink_unmarked(kind: &[u16], count: &mut [u16], slots: &[u16], marks: &[u8])
-    requires { ⌜ (length (now kind) ≡ length (now count)) × (length (now marks) ≡ length (now count)) ⌝ }
-    requires { ⌜ Slots (now slots) (length (now count)) ⌝ }
+    requires { ⌜ (length (now marks) ≡ length (now kind)) × (length (now slots) ≡ 8 * length (now kind)) ⌝ }
     requires { ⌜ PlainSlots (now kind) (now slots) ⌝ }
+    requires { ⌜ SlotsCovered (now slots) (now count) (garbageOf (now kind) (now marks)) ⌝ }
     ensures { λ _. ⌜ Unlinked (now (slots .entry)) (now (count .entry)) (garbageOf (now (kind .entry)) (now (marks .entry))) (now (count .exit)) ⌝ }
 {
     for c in 0..kind.len() {

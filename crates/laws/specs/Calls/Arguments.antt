@@ -78,17 +78,21 @@ pub not-objectOk : (h : Heap) (x c : ℕ) → x ≡ suc c → kindOf h c ≢ 1 �
 unfolding objectOk
 not-objectOk h x c e n = ap (objectOk h) e ∙ ne-eqb (kindOf h c) 1 n
 
-pub fresh-only : (call : Call) → call ≢ FRESH → isFresh call ≡ false
+-- FRESH, or one of the eight calls
+pub by-fresh : {P : Call → Type 0} → P FRESH → ((call : Call) → isFresh call ≡ false → P call) → (call : Call) → P call
 unfolding isFresh
-fresh-only FRESH n = absurd (n refl)
-fresh-only (NEW r k f) n = refl
-fresh-only (CLEAR r) n = refl
-fresh-only (COPY to from) n = refl
-fresh-only (LOAD to o s) n = refl
-fresh-only (STORE o s from) n = refl
-fresh-only COLLECT n = refl
-fresh-only (START r) n = refl
-fresh-only FINISH n = refl
+by-fresh fresh eight FRESH = fresh
+by-fresh fresh eight (NEW r k f) = eight (NEW r k f) refl
+by-fresh fresh eight (CLEAR r) = eight (CLEAR r) refl
+by-fresh fresh eight (COPY to from) = eight (COPY to from) refl
+by-fresh fresh eight (LOAD to o s) = eight (LOAD to o s) refl
+by-fresh fresh eight (STORE o s from) = eight (STORE o s from) refl
+by-fresh fresh eight COLLECT = eight COLLECT refl
+by-fresh fresh eight (START r) = eight (START r) refl
+by-fresh fresh eight FINISH = eight FINISH refl
+
+pub fresh-only : (call : Call) → call ≢ FRESH → isFresh call ≡ false
+fresh-only = by-fresh (λ n. absurd (n refl)) (λ call f n. f)
 
 pub not-fresh : (call : Call) → isFresh call ≡ false → call ≢ FRESH
 unfolding isFresh

@@ -55,15 +55,15 @@ running-sound h extra r top some s =
       positive = s .positive;
     }
 
-module _ (h : Heap) (s : SoundBut h []) (r : ℕ) (rootOk : r < 64) (rootEmpty : rootAt h r ≡ 0) (some : 1 ≤ queued h) where
-  -- the queue's head is a used cell
-  head-used : (c : ℕ) → queueAt h 0 ≡ suc c → 1 ≤ kindOf h c
-  head-used c e =
-      let same : queueAt h 0 - 1 ≡ c = omega arith in
-      omega (arith, head-object h s some, ap (kindOf h) same)
+-- the queue's head is a used cell
+pub head-used : (h : Heap) → SoundBut h [] → 1 ≤ queued h → (c : ℕ) → queueAt h 0 ≡ suc c → 1 ≤ kindOf h c
+head-used h s some c e =
+    let same : queueAt h 0 - 1 ≡ c = omega arith in
+    omega (arith, head-object h s some, ap (kindOf h) same)
 
+module _ (h : Heap) (s : SoundBut h []) (r : ℕ) (rootOk : r < 64) (rootEmpty : rootAt h r ≡ 0) (some : 1 ≤ queued h) where
   pub start-sound : SoundBut (startRun h r) []
   unfolding startRun
   start-sound =
       running-sound (setRoot (incref h (queueAt h 0)) r (queueAt h 0)) [] (suc r) rootOk (unfold setRoot incref in some)
-      (drop-empty (setRoot (incref h (queueAt h 0)) r (queueAt h 0)) (rootAt h r) rootEmpty (write-root-ready h r (queueAt h 0) rootOk head-used s))
+      (drop-empty (setRoot (incref h (queueAt h 0)) r (queueAt h 0)) (rootAt h r) rootEmpty (write-root-ready h r (queueAt h 0) rootOk (head-used h s some) s))

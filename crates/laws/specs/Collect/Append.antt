@@ -1,9 +1,10 @@
 -- The phases of COLLECT as loops take them: over two lists of cells, one after the other.
 -- Assumes nothing.
-use Prim.Native.Nat.{ℕ, zero, suc, _-_}
+use Prim.Native.Nat.{ℕ, zero, suc}
 use mathlib.Core.List.{List, [], _∷_, _++_}
 use mathlib.Core.Path.{_≡_, refl}
 use Rattle.rules.specs.Heap.{Heap, countOf, slotsOf, setCount, setFlags, enqueue, wipe}
+use Rattle.rules.specs.Release.{decremented}
 use Rattle.rules.specs.Collect.{enqueueAll, lowerAll, unlinkAll, wipeAll, rescueAll}
 
 pub enqueue-append : (h : Heap) (l m : List ℕ) → enqueueAll h (l ++ m) ≡ enqueueAll (enqueueAll h l) m
@@ -15,7 +16,7 @@ pub lower-append : (h : Heap) (l m : List ℕ) → lowerAll h (l ++ m) ≡ lower
 unfolding lowerAll
 lower-append h [] m = refl
 lower-append h (zero ∷ l) m = lower-append h l m
-lower-append h (suc c ∷ l) m = lower-append (setCount h c (countOf h c - 1)) l m
+lower-append h (suc c ∷ l) m = lower-append (setCount h c (decremented (countOf h c))) l m
 
 pub unlink-append : (h : Heap) (l m : List ℕ) → unlinkAll h (l ++ m) ≡ unlinkAll (unlinkAll h l) m
 unfolding unlinkAll

@@ -1,7 +1,7 @@
 -- What COLLECT leaves in each table, its four phases one after the other: the garbage is all zeros, and any other cell keeps what it has but for its
 -- count and, where it was rescued, its flags.
 -- Assumes nothing.
-use Prim.Native.Nat.{ℕ, suc, _+_, _*_, _-_, _≤_, _<_}
+use Prim.Native.Nat.{ℕ, suc, _+_, _*_, _≤_, _<_}
 use native.Mathlib.Omega.{arith}
 use native.Mathlib.Decide.{ℕ-discrete, decLt}
 use mathlib.Core.List.{List, [], _++_, map}
@@ -13,12 +13,13 @@ use lib.ListN.{length, getD}
 use borrow.Author.Tests.{eqb-true, eq-eqb}
 use Rattle.rules.specs.Lists.{occ, select}
 use Rattle.rules.specs.Heap.{Heap, cells, queued, running, kindOf, flagsOf, countOf, slotOf, queueAt, entries, Used}
-use Rattle.rules.specs.Collect.{unreachedFinalizable, keptMarks, garbage, enqueueAll, unlinkAll, rescued, rescueAll, swept, collect}
+use Rattle.rules.specs.Collect.{unreachedFinalizable, keptMarks, garbage, enqueueAll, unlinkAll, wipeAll, rescued, rescueAll, swept, collect}
 use Rattle.laws.specs.Lists.Tables.{inside}
 use Rattle.laws.specs.Lists.Tests.{and-join, and-left}
 use Rattle.laws.specs.Lists.Select.{cond-only, select-only, select-in}
 use Rattle.laws.specs.Sound.But.{SoundBut}
-use Rattle.laws.specs.Collect.Phases.{Enqueued, enqueued, Lowered, heldBy, unlinked, Rescued, rescued-all}
+use Rattle.laws.specs.Collect.Phases.{Enqueued, enqueued, Rescued, rescued-all}
+use Rattle.laws.specs.Collect.Unlinking.{Lowered, heldBy, SlotsCovered, unlinked}
 use Rattle.laws.specs.Collect.Wiping.{Wiped, wiped, Emptied, emptied-all}
 use Rattle.laws.specs.Collect.Live.{due-only, due-room, kept-bits, garbage-only, garbage-once, out-live}
 
@@ -33,7 +34,7 @@ pub record Left (h after : Heap) : Type 0 where
   pub kindOut : (c : ℕ) → occ c (garbage h) ≡ 0 → kindOf after c ≡ kindOf h c
   pub flagsOut : (c : ℕ) → occ c (garbage h) ≡ 0 → (flagsOf after c ≡ flagsOf h c) ⊎ ((flagsOf h c ≡ 3) × (flagsOf after c ≡ 1) × (queued h ≡ 0))
   pub rescuedIn : (c : ℕ) → occ c (garbage h) ≡ 0 → flagsOf h c ≡ 3 → queued h ≡ 0 → flagsOf after c ≡ 1
-  pub countOut : (c : ℕ) → occ c (garbage h) ≡ 0 → countOf after c ≡ countOf h c + occ c (unreachedFinalizable h) - heldBy (h .slots) (garbage h) (suc c)
+  pub countOut : (c : ℕ) → occ c (garbage h) ≡ 0 → countOf after c + heldBy (h .slots) (garbage h) (suc c) ≡ countOf h c + occ c (unreachedFinalizable h)
   pub slotsOut : (c i : ℕ) → i < 8 → occ c (garbage h) ≡ 0 → slotOf after c i ≡ slotOf h c i
   pub slotsOcc : (c : ℕ) → occ (suc c) (after .slots) + heldBy (h .slots) (garbage h) (suc c) ≡ occ (suc c) (h .slots)
   -- the roots, and the queue, which those that are due have joined
@@ -74,8 +75,19 @@ module _ (h : Heap) (s : SoundBut h []) where
   phase1 : Enqueued h h1 due
   phase1 = enqueued h due (s .fit .control-size) (omega (arith, due-room h s, s .fit .queue-size)) (λ x b. omega (arith, s .fit .count-size, due-only h s x b .range))
 
+  -- Every reference that the first round takes off is counted, and after the queueing all the more. It is read off what a wiping of the same cells
+  -- would do with the slots, since no cell is among the garbage twice.
+  pub unlink-counted : SlotsCovered (h .slots) (h .count) dead
+  unlink-counted =
+      let gone : Emptied h (wipeAll h dead) dead =
+      emptied-all h dead (s .shaped .plainSlots) (garbage-once h s) (λ x b. omega (arith, s .slots, inside (h .kind) x (garbage-only h s x b .0))) in
+      record { covers = λ c. omega (arith, gone .slotsOcc c, s .counted c) }
+
+  pub unlink-covered : SlotsCovered (h1 .slots) (h1 .count) dead
+  unlink-covered = record { covers = λ c. omega (arith, unlink-counted .covers c, phase1 .count c, ap (λ (l : List ℕ). heldBy l dead (suc c)) (phase1 .slots)) }
+
   phase2 : Lowered h1 h2 (λ x. heldBy (h1 .slots) dead (suc x))
-  phase2 = unlinked h1 dead
+  phase2 = unlinked h1 dead unlink-covered
 
   slots2 : h2 .slots ≡ h .slots
   slots2 = phase2 .slots ∙ phase1 .slots
@@ -142,19 +154,19 @@ module _ (h : Heap) (s : SoundBut h []) where
   abbrev lost : ℕ → ℕ
   lost c = heldBy (h .slots) dead (suc c)
 
-  count-out : (c : ℕ) → occ c dead ≡ 0 → countOf final c ≡ countOf h c + occ c due - lost c
-  count-out c o =
-      omega (
-        arith,
-        ap (λ (l : List ℕ). getD l c 0) (phase4 .count),
-        phase3 .countOut c o,
-        phase2 .count c,
-        phase1 .count c,
-        ap (λ (l : List ℕ). heldBy l dead (suc c)) (phase1 .slots),
-      )
+  -- after the first round
+  pub unlinked-count : (c : ℕ) → countOf h2 c + lost c ≡ countOf h c + occ c due
+  unlinked-count c = omega (arith, phase2 .count c, phase1 .count c, ap (λ (l : List ℕ). heldBy l dead (suc c)) (phase1 .slots))
+
+  -- the last phase writes no counts
+  pub rescued-count : final .count ≡ swept h .count
+  rescued-count = phase4 .count
+
+  count-out : (c : ℕ) → occ c dead ≡ 0 → countOf final c + lost c ≡ countOf h c + occ c due
+  count-out c o = omega (arith, ap (λ (l : List ℕ). getD l c 0) rescued-count, phase3 .countOut c o, unlinked-count c)
 
   count-in : (c : ℕ) → 1 ≤ occ c dead → countOf final c ≡ 0
-  count-in c b = ap (λ (l : List ℕ). getD l c 0) (phase4 .count) ∙ phase3 .countIn c b
+  count-in c b = ap (λ (l : List ℕ). getD l c 0) rescued-count ∙ phase3 .countIn c b
 
   slots-occ : (c : ℕ) → occ (suc c) (final .slots) + lost c ≡ occ (suc c) (h .slots)
   slots-occ c =
@@ -204,7 +216,7 @@ module _ (h : Heap) (s : SoundBut h []) where
     rest = λ i b. ap (λ (l : List ℕ). getD l i 0) queue-same ∙ phase1 .rest i (omega (arith, queued-is));
     kindLength = ap length (phase4 .kind) ∙ phase3 .kindLength ∙ ap length kind2;
     flagsLength = phase4 .flagsLength ∙ phase3 .flagsLength ∙ ap length flags2;
-    countLength = ap length (phase4 .count) ∙ phase3 .countLength ∙ phase2 .countLength ∙ phase1 .countLength;
+    countLength = ap length rescued-count ∙ phase3 .countLength ∙ phase2 .countLength ∙ phase1 .countLength;
     slotsLength = ap length (phase4 .slots) ∙ phase3 .slotsLength ∙ ap length slots2;
     queueLength = ap length queue-same ∙ phase1 .queueLength;
     controlLength = ap length control-same ∙ phase1 .controlLength;

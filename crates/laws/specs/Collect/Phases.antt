@@ -1,39 +1,25 @@
--- The phases of COLLECT that free no cell, table by table: queueing, taking off, rescuing.
+-- The first and the last phase of COLLECT, table by table: queueing and rescuing.
 -- Assumes nothing.
-use Prim.Native.Nat.{ℕ, zero, suc, _+_, _-_, _≤_, _<_}
+use Prim.Native.Nat.{ℕ, suc, _+_, _≤_, _<_}
 use native.Mathlib.Omega.{arith}
-use native.Mathlib.Decide.{ℕ-discrete, decLt}
+use native.Mathlib.Decide.{ℕ-discrete}
 use mathlib.Core.List.{List, [], _∷_, _++_, map, append-assoc, append-nil}
 use mathlib.Core.Path.{_≡_, refl, sym, _∙_, ap}
 use mathlib.Core.Logic.{by-cases}
-use lib.ListN.{length, getD, set, length-set, List·getD-eq-default}
-use lib.Seq.{getD-set-same, getD-set-other, take-suc-set, set-out}
+use lib.ListN.{length, getD, set, length-set}
+use lib.Seq.{getD-set-same, getD-set-other, take-suc-set}
 use Rattle.rules.specs.Lists.{occ}
-use Rattle.rules.specs.Heap.{Heap, queued, running, flagsOf, countOf, slotsOf, entries, setCount, setFlags, setQueue, enqueue}
-use Rattle.rules.specs.Collect.{enqueueAll, lowerAll, unlinkAll, rescueAll}
+use Rattle.rules.specs.Heap.{Heap, queued, running, flagsOf, countOf, entries, setCount, setFlags, setQueue, enqueue}
+use Rattle.rules.specs.Collect.{enqueueAll, rescueAll}
 use Rattle.laws.specs.Lists.Tables.{by-cell}
 use Rattle.laws.specs.Lists.Occ.{occ-nil, occ-here, occ-cons, occ-one, occ-other, occ-absent, occ-single}
 
--- ---- a count that rises or falls by one
+-- ---- a count that rises by one
 
 pub raise-at : (l : List ℕ) (i : ℕ) → i < length l → (c : ℕ) → getD (set l i (suc (getD l i 0))) c 0 ≡ getD l c 0 + occ c (i ∷ [])
 raise-at l i b =
     by-cell i (omega (arith, getD-set-same l i (suc (getD l i 0)) 0 b, occ-one i i refl))
     (λ c n. omega (arith, getD-set-other l i c (suc (getD l i 0)) 0 n, occ-other c i n))
-
--- beyond the table's end nothing is written, and 0 is read
-pub lower-at : (l : List ℕ) (i c : ℕ) → getD (set l i (getD l i 0 - 1)) c 0 ≡ getD l c 0 - occ c (i ∷ [])
-lower-at l i =
-    by-cell i (here (decLt i (length l)))
-    (λ c n. omega (arith, getD-set-other l i c (getD l i 0 - 1) 0 n, occ-other c i n))
-  where
-    here : Dec (i < length l) → getD (set l i (getD l i 0 - 1)) i 0 ≡ getD l i 0 - occ i (i ∷ [])
-    here (yes b) = omega (arith, getD-set-same l i (getD l i 0 - 1) 0 b, occ-one i i refl)
-    here (no o) = omega (
-      arith,
-      ap (λ (k : List ℕ). getD k i 0) (set-out l i (getD l i 0 - 1) (omega arith)),
-      List·getD-eq-default l 0 {n = i} (omega arith),
-    )
 
 -- ---- cells join the queue
 
@@ -115,82 +101,6 @@ enqueued h (c ∷ l) two room inside =
     enqueued-then h (enqueueOne h c) _ c l one
     (enqueued (enqueueOne h c) l (one .controlLength ∙ two) (omega (arith, one .queuedIs, one .queueLength))
     (λ x b. omega (arith, one .countLength, inside x (omega (arith, occ-cons x c l)))))
-
--- ---- references come off their targets' counts
-
--- only the counts differ
-pub record Lowered (h after : Heap) (less : ℕ → ℕ) : Type 0 where
-  pub kind : after .kind ≡ h .kind
-  pub flags : after .flags ≡ h .flags
-  pub slots : after .slots ≡ h .slots
-  pub roots : after .roots ≡ h .roots
-  pub queue : after .queue ≡ h .queue
-  pub control : after .control ≡ h .control
-  pub countLength : length (after .count) ≡ length (h .count)
-  pub count : (x : ℕ) → countOf after x ≡ countOf h x - less x
-
-lowered-then : (h g k : Heap) (f e t : ℕ → ℕ) → ((x : ℕ) → f x + e x ≡ t x) → Lowered h g f → Lowered g k e → Lowered h k t
-lowered-then h g k f e t sum a b = record {
-  kind = b .kind ∙ a .kind;
-  flags = b .flags ∙ a .flags;
-  slots = b .slots ∙ a .slots;
-  roots = b .roots ∙ a .roots;
-  queue = b .queue ∙ a .queue;
-  control = b .control ∙ a .control;
-  countLength = b .countLength ∙ a .countLength;
-  count = λ x. omega (arith, a .count x, b .count x, sum x);
-}
-
-lowered-none : (h : Heap) (t : ℕ → ℕ) → ((x : ℕ) → t x ≡ 0) → Lowered h h t
-lowered-none h t z = record { kind = refl; flags = refl; slots = refl; roots = refl; queue = refl; control = refl; countLength = refl; count = λ x. omega (arith, z x) }
-
-lowered-one : (h : Heap) (c : ℕ) → Lowered h (setCount h c (countOf h c - 1)) (λ x. occ x (c ∷ []))
-unfolding setCount
-lowered-one h c = record {
-  kind = refl;
-  flags = refl;
-  slots = refl;
-  roots = refl;
-  queue = refl;
-  control = refl;
-  countLength = length-set (h .count) c _;
-  count = lower-at (h .count) c;
-}
-
--- a reference names a cell exactly where their numbers do
-occ-suc : (x c : ℕ) → occ (suc x) (suc c ∷ []) ≡ occ x (c ∷ [])
-occ-suc x c = by-cases (ℕ-discrete x c) (λ e. occ-one (suc x) (suc c) (ap suc e) ∙ sym (occ-one x c e)) (λ n. occ-other (suc x) (suc c) (λ e. n (omega arith)) ∙ sym (occ-other x c n))
-
-pub lowered : (h : Heap) (l : List ℕ) → Lowered h (lowerAll h l) (λ x. occ (suc x) l)
-unfolding lowerAll
-lowered h [] = lowered-none h _ (λ x. occ-nil (suc x))
-lowered h (zero ∷ l) =
-    lowered-then h h _ (λ x. occ (suc x) (0 ∷ [])) (λ x. occ (suc x) l) _ (λ x. sym (occ-cons (suc x) 0 l))
-    (lowered-none h _ (λ x. occ-other (suc x) 0 (λ e. omega arith))) (lowered h l)
-lowered h (suc c ∷ l) =
-    lowered-then h _ _ (λ x. occ x (c ∷ [])) (λ x. occ (suc x) l) _ (λ x. omega (arith, occ-cons (suc x) (suc c) l, occ-suc x c))
-    (lowered-one h c) (lowered _ l)
-
--- references that are empty come off nothing
-pub lower-none : (h : Heap) (l : List ℕ) → ((i : ℕ) → i < length l → getD l i 0 ≡ 0) → lowerAll h l ≡ h
-unfolding lowerAll
-lower-none h [] none = refl
-lower-none h (zero ∷ l) none = lower-none h l (λ i b. none (suc i) (omega arith))
-lower-none h (suc r ∷ l) none = absurd (omega (arith, none 0 (omega arith)))
-
--- how often the slots of a list of cells hold x
-unfoldable pub heldBy : List ℕ → List ℕ → ℕ → ℕ
-heldBy slots [] x = 0
-heldBy slots (c ∷ l) x = occ x (slotsOf slots c) + heldBy slots l x
-
-pub unlinked : (h : Heap) (l : List ℕ) → Lowered h (unlinkAll h l) (λ x. heldBy (h .slots) l (suc x))
-unfolding unlinkAll heldBy
-unlinked h [] = lowered-none h _ (λ x. refl)
-unlinked h (c ∷ l) =
-    let s : List ℕ = slotsOf (h .slots) c in
-    let one : Lowered h (lowerAll h s) (λ x. occ (suc x) s) = lowered h s in
-    lowered-then h (lowerAll h s) _ (λ x. occ (suc x) s) (λ x. heldBy (lowerAll h s .slots) l (suc x)) _
-    (λ x. ap (λ (k : List ℕ). occ (suc x) s + heldBy k l (suc x)) (one .slots)) one (unlinked (lowerAll h s) l)
 
 -- ---- the rescued
 

@@ -11,14 +11,14 @@ use Rattle.rules.specs.Lists.{occ}
 use Rattle.rules.specs.Heap.{Heap, kindOf, flagsOf, countOf, entries, Used, Free}
 use Rattle.rules.specs.Reach.{Holds, Link, Reached, Exact}
 use Rattle.rules.specs.Reach.Chain.{root, entry, further}
-use Rattle.rules.specs.Collect.{unreachedFinalizable, garbage, collect}
+use Rattle.rules.specs.Collect.{unreachedFinalizable, garbage, enqueueAll, unlinkAll, collect}
 use Rattle.laws.specs.Lists.Tests.{none-of}
 use Rattle.laws.specs.Lists.Occ.{Stands, occ-nil, occ-append, occ-find, occ-empty, occ-refs, zero-refs}
 use Rattle.laws.specs.Sound.But.{refit, Shaped, QueueOk, SoundBut}
 use Rattle.laws.specs.Reach.Used.{holds-occ, link-owner, reached-used}
 use Rattle.laws.specs.Reach.Safe.{Kept}
 use Rattle.laws.specs.Collect.Live.{Live, due-only, due-room, queued-once, entry-reached, live-reached, live-due, live-link, live-least, live-out, out-live, garbage-only}
-use Rattle.laws.specs.Collect.Left.{Left, collect-left}
+use Rattle.laws.specs.Collect.Left.{Left, unlinked-count, collect-left}
 
 module _ (h : Heap) (s : SoundBut h []) where
   abbrev due : List ℕ
@@ -105,10 +105,19 @@ module _ (h : Heap) (s : SoundBut h []) where
       reached d (entry i e) = omega (arith, entries-occ d, holds-occ (entries h) i d e)
       reached d (further {p} r k) = in-slots p d (live-reached h s p r) k
 
+  -- nothing refers to what was garbage
+  unreferred : (c : ℕ) → 1 ≤ occ c dead → refsTo c ≡ 0
+  unreferred c b = none-of (refsTo c) (λ o. garbage-only h s c b .1 (referred-live c o))
+
+  -- so every reference to it came off in the first round
+  pub garbage-spent : (c : ℕ) → 1 ≤ occ c (garbage h) → countOf (unlinkAll (enqueueAll h (unreachedFinalizable h)) (garbage h)) c ≡ 0
+  garbage-spent c b =
+      omega (arith, unlinked-count h s c, unreferred c b, s .counted c, left .slotsOcc c, entries-occ c, ap (occ (suc c)) (left .roots), occ-nil (suc c))
+
   final-counted : (c : ℕ) → countOf final c ≡ occ (suc c) (final .roots) + occ (suc c) (final .slots) + occ (suc c) (entries final) + occ (suc c) []
   final-counted c =
       by-cases (decLt 0 (occ c dead))
-      (λ b. by-cases (decLt 0 (refsTo c)) (λ o. absurd (garbage-only h s c b .1 (referred-live c o))) (λ n. omega (arith, left .countIn c b, occ-nil (suc c))))
+      (λ b. omega (arith, left .countIn c b, unreferred c b, occ-nil (suc c)))
       (λ n. omega (arith, left .countOut c (omega arith), s .counted c, left .slotsOcc c, entries-occ c, ap (occ (suc c)) (left .roots)))
 
   -- ---- the rules

@@ -15,7 +15,7 @@ use Rattle.laws.specs.Lists.Tables.{set-here, slot-entry, slots-most}
 use Rattle.laws.specs.Lists.Occ.{occ-nil, occ-here, occ-cons, occ-one, occ-absent, occ-single, occ-cleared}
 use Rattle.laws.specs.Sound.But.{PlainSlots}
 use Rattle.laws.specs.Freeing.{wiped-length, wiped-out, wipe-plain, wiped-in, plain-kept}
-use Rattle.laws.specs.Collect.Phases.{heldBy}
+use Rattle.laws.specs.Collect.Unlinking.{heldBy}
 
 -- ---- on any tables
 

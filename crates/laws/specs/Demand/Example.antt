@@ -1,4 +1,5 @@
--- A list of thirteen calls on two cells, from a FRESH done on tables in which something stood: the tables and the answer of each, by computation.
+-- By computation: a list of thirteen calls on two cells, from a FRESH done on tables in which something stood, with the tables and the answer of each; and the
+-- counts that the take-offs of the examples in `Counts` meet.
 -- Assumes nothing.
 use Prim.Native.Nat.{ℕ}
 use mathlib.Core.List.{List, [], _∷_}
@@ -9,10 +10,11 @@ use Rattle.rules.specs.Heap.{Heap, tables, slotsOf, fresh, setKind, setFlags, s
 use Rattle.rules.specs.Check.{fits, cellOk, cellAt, refOk, entryOk, runningOk, refs, countOk, sound}
 use Rattle.rules.specs.Refusals.{Call, number, lowest, lowestFree, newOk, objectOk, conditions, isFresh, refusal}
 use Rattle.rules.specs.Refusals.Call.{FRESH, NEW, CLEAR, LOAD, STORE, COLLECT, START, FINISH}
-use Rattle.rules.specs.Release.{start, raise, incref, finalizable, refzero, lower, decref, decrefs, withPending, retire, serve, drain, release}
+use Rattle.rules.specs.Release.{start, raise, incref, finalizable, refzero, decremented, lower, decref, decrefs, withPending, retire, serve, drain, release}
 use Rattle.rules.specs.Marking.{mark, markIf, spreadFrom, spread, closure, markFrom}
 use Rattle.rules.specs.Collect.{reachedMarks, unreachedFinalizable, enqueueAll, keptMarks, garbage, lowerAll, unlinkAll, wipeAll, rescued, rescueAll, swept, collect}
 use Rattle.rules.specs.Calls.{refuse, done, finished, allocate, writeRoot, writeSlot, startRun, leaveQueue, finishRun, act, byRefusal, step, answers, Did, Event, Trace, Begins, run}
+use Rattle.rules.specs.Counts.{met, decrefsMet, serveMet, drainMet, releaseMet, lowerAllMet, unlinkAllMet, collectMet, writeRootMet, writeSlotMet, finishRunMet, actMet, byRefusalMet, stepMet, runMet, examples, MetExamples}
 use Rattle.laws.specs.Demand.Events.{run-trace}
 
 -- tables for two cells: their kinds, flags and counts, the first slot of cell 0, the first two roots, the first queue entry, and control
@@ -78,20 +80,23 @@ events =
     ∷ event COLLECT empty 1 0 0
     ∷ []
 
--- FRESH done on the stale tables and then the list; and two calls beside it, FRESH on a used cell, and LOAD from a root that is too high
+-- FRESH done on the stale tables and then the list; two calls beside it, FRESH on a used cell, and LOAD from a root that is too high; and the counts met
 pub computed :
     Did FRESH stale empty (answers 0 0 0 0) × Trace empty events × Did FRESH oneObject empty (answers 0 0 0 0) × Did (LOAD 0 64 0) empty empty (answers 3 0 0 0)
+    × MetExamples
 unfolding every all below occ distinct select slotsOf fresh setKind setFlags setCount setSlot setRoot setRunning setQueue enqueue plain wipe fits cellOk
     cellAt refOk entryOk runningOk refs countOk sound number lowest lowestFree newOk objectOk conditions isFresh refusal start raise incref finalizable
-    refzero lower decref decrefs withPending retire serve drain release mark markIf spreadFrom spread closure markFrom reachedMarks unreachedFinalizable
+    refzero decremented lower decref decrefs withPending retire serve drain release mark markIf spreadFrom spread closure markFrom reachedMarks unreachedFinalizable
     enqueueAll keptMarks garbage lowerAll unlinkAll wipeAll rescued rescueAll swept collect refuse done finished allocate writeRoot writeSlot startRun
-    leaveQueue finishRun act byRefusal step run
+    leaveQueue finishRun act byRefusal step run met decrefsMet serveMet drainMet releaseMet lowerAllMet unlinkAllMet collectMet writeRootMet writeSlotMet
+    finishRunMet actMet byRefusalMet stepMet runMet examples
 computed = (
   record { heap = refl; answered = refl },
   run-trace empty
       (NEW 0 1 0 ∷ NEW 1 1 0 ∷ STORE 0 0 1 ∷ CLEAR 1 ∷ STORE 0 0 1 ∷ CLEAR 0 ∷ NEW 0 1 1 ∷ STORE 0 0 0 ∷ CLEAR 0 ∷ COLLECT ∷ START 0 ∷ FINISH ∷ COLLECT ∷ []),
   record { heap = refl; answered = refl },
   record { heap = refl; answered = refl },
+  refl,
 )
 
 abbrev pub begins : Begins empty
@@ -105,3 +110,6 @@ fresh-clears = computed .2
 
 pub load-refused : Did (LOAD 0 64 0) empty empty (answers 3 0 0 0)
 load-refused = computed .3
+
+pub met-examples : MetExamples
+met-examples = computed .4

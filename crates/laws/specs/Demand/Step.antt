@@ -27,6 +27,7 @@ use Rattle.laws.specs.Sound.But.{SoundBut}
 use Rattle.laws.specs.Sound.Facts.{ready-tests, ready-facts, facts-ready}
 use Rattle.laws.specs.Reach.Safe.{Kept}
 use Rattle.laws.specs.Calls.Admission.{admission, admission-sound, ready-or-refused, step-refused, step-done, step-fresh, fresh-ready, ready-refused}
+use Rattle.laws.specs.Calls.Arguments.{by-fresh}
 use Rattle.laws.specs.Calls.Asked.{asksFresh}
 use Rattle.laws.specs.Calls.Outcome.{outcome-freed}
 use Rattle.laws.specs.Calls.Done.{Performed, performed}
@@ -87,7 +88,7 @@ module _ (h : Heap) (s : SoundBut h []) where
 
   performed-numbers : (call : Call) (r : Result) → Performed h call r → TrueNumbers call h (r .heap) (r .answer)
   performed-numbers call r p = record {
-    freed = p .freed ∙ outcome-freed h (stood h call 0) (leaving call 0) (p .work) (p .outcome) ∙ ap (λ (g : Heap). length (freedCells h g)) (sym (p .heap));
+    freed = p .freed ∙ outcome-freed (p .outcome) ∙ ap (λ (g : Heap). length (freedCells h g)) (sym (p .heap));
     joined = p .work .queued;
     queue = ap (λ (g : Heap). entries g) (p .heap) ∙ p .outcome .entered ∙ ap (λ (n : ℕ). drop (leaving call n) (entries h) ++ map suc (p .work .queued)) (sym (p .refused));
     queued = p .queued;
@@ -112,16 +113,7 @@ module _ (h : Heap) (s : SoundBut h []) where
       rw (step-fresh h z) (record { sound = ready-facts (fresh-ready (cells h) (z .least) (z .most)); kept = λ c i u b. absurd (omega (arith, getD-zeros (cells h) c)) })
 
   pub good-step : (call : Call) → Good h call (step h call)
-  unfolding isFresh
-  good-step FRESH = fresh-good
-  good-step (NEW r k f) = eight-good (NEW r k f) refl
-  good-step (CLEAR r) = eight-good (CLEAR r) refl
-  good-step (COPY to from) = eight-good (COPY to from) refl
-  good-step (LOAD to o i) = eight-good (LOAD to o i) refl
-  good-step (STORE o i from) = eight-good (STORE o i from) refl
-  good-step COLLECT = eight-good COLLECT refl
-  good-step (START r) = eight-good (START r) refl
-  good-step FINISH = eight-good FINISH refl
+  good-step = by-fresh fresh-good eight-good
 
 -- Demand 2: "From a sound heap it leaves a sound one."
 pub sound-step : (h : Heap) → Ready h → (call : Call) → Ready (step h call .heap)

@@ -11,14 +11,14 @@ use lib.Seq.{getD-set-other, length-take-le}
 use Rattle.laws.specs.Lists.Tests.{none-of}
 use Rattle.rules.specs.Lists.{occ}
 use Rattle.rules.specs.Heap.{queued, running, kindOf, countOf, entries, setCount, setQueue, enqueue, wipe}
-use Rattle.rules.specs.Release.{Work, decref, decrefs, lower, refzero, finalizable, withPending, retire}
+use Rattle.rules.specs.Release.{Work, decremented, decref, decrefs, lower, refzero, finalizable, withPending, retire}
 use Rattle.laws.specs.Lists.Tables.{set-here}
 use Rattle.laws.specs.Lists.Occ.{occ-nil, occ-append, occ-absent, occ-single, occ-length}
 use Rattle.laws.specs.Sound.But.{PlainSlots}
 use Rattle.laws.specs.Freeing.{wiped-out, wiped-in}
 use Rattle.laws.specs.Release.Balance.{Balanced, Advance}
 use Rattle.laws.specs.Release.Queue.{push-entries}
-use Rattle.laws.specs.Release.Decref.{unqueued, in-range, decref-balanced}
+use Rattle.laws.specs.Release.Decref.{count-above-zero, unqueued, in-range, decref-balanced}
 
 -- ---- tables that taking references off does not write
 
@@ -39,14 +39,13 @@ refzero-frame false w c = record { kind = refl; flags = refl; slots = refl; root
 
 lower-frame : (w : Work) (c n : ℕ) → Frame w (lower w c n)
 unfolding lower setCount
-lower-frame w c zero = frame-still w
-lower-frame w c (suc zero) = refzero-frame (finalizable (w .heap) c) w c
-lower-frame w c (suc (suc n)) = record { kind = refl; flags = refl; slots = refl; roots = refl; freed = refl }
+lower-frame w c zero = refzero-frame (finalizable (w .heap) c) w c
+lower-frame w c (suc n) = record { kind = refl; flags = refl; slots = refl; roots = refl; freed = refl }
 
 pub decref-frame : (w : Work) (r : ℕ) → Frame w (decref w r)
 unfolding decref
 decref-frame w zero = frame-still w
-decref-frame w (suc c) = lower-frame w c (countOf (w .heap) c)
+decref-frame w (suc c) = lower-frame w c (decremented (countOf (w .heap) c))
 
 pub decrefs-frame : (w : Work) (l : List ℕ) → Frame w (decrefs w l)
 unfolding decrefs
@@ -144,11 +143,11 @@ module _ (w : Work) (serving done held : List ℕ) (c : ℕ) (b : Balanced w ser
   )
   refzero-advance false e = ([], framed w (refzero false w c) [] (refzero-frame false w c) refl (sym (append-nil _)) (sym (append-nil _)))
 
-  lower-advance : (n : ℕ) → countOf (w .heap) c ≡ n → Advanced w (lower w c n) []
-  unfolding lower setCount
-  lower-advance zero e = ([], idle-advance w)
+  lower-advance : (n : ℕ) → countOf (w .heap) c ≡ n → Advanced w (lower w c (decremented n)) []
+  unfolding decremented lower setCount
+  lower-advance zero e = absurd (omega (arith, count-above-zero w serving done held c b))
   lower-advance (suc zero) e = refzero-advance (finalizable (w .heap) c) e
-  lower-advance (suc (suc n)) e = ([], framed w (lower w c (suc (suc n))) [] (lower-frame w c (suc (suc n))) refl (sym (append-nil _)) (sym (append-nil _)))
+  lower-advance (suc (suc n)) e = ([], framed w (lower w c (suc n)) [] (lower-frame w c (suc n)) refl (sym (append-nil _)) (sym (append-nil _)))
 
 pub decref-advance : (w : Work) (serving done : List ℕ) (r : ℕ) (held : List ℕ) → Balanced w serving done (r ∷ held) → Advanced w (decref w r) []
 unfolding decref

@@ -14,7 +14,7 @@ use lib.Seq.{getD-set-same, getD-set-other}
 use Rattle.laws.specs.Sound.But.{refit}
 use Rattle.rules.specs.Lists.{occ}
 use Rattle.rules.specs.Heap.{Heap, tables, queued, kindOf, flagsOf, countOf, entries, setCount, setQueue, enqueue}
-use Rattle.rules.specs.Release.{Work, decref, decrefs, lower, refzero, finalizable}
+use Rattle.rules.specs.Release.{Work, decremented, decref, decrefs, lower, refzero, finalizable}
 use Rattle.laws.specs.Lists.Tests.{none-of, and-left, and-right}
 use Rattle.laws.specs.Lists.Tables.{by-cell, inside, set-here, set-same}
 use Rattle.laws.specs.Lists.Occ.{occ-three, occ-here, occ-there, occ-snoc-here, occ-snoc-there}
@@ -44,7 +44,7 @@ listed-below w serving done held b c o = elim (ℕ-discrete (occ c done) 0) [
 ]
 
 module _ (w : Work) (serving done held : List ℕ) (c : ℕ) (b : Balanced w serving done (suc c ∷ held)) where
-  -- no `decref` meets a count of zero: the reference that is due is counted, so that the guard is never needed
+  -- no `decref` meets a count of zero: the reference that is due is counted
   pub count-above-zero : 1 ≤ countOf (w .heap) c
   count-above-zero = omega (arith, b .balance c, occ-here (suc c) held)
 
@@ -122,7 +122,7 @@ beside-balanced w serving done held slots roots freed queued b = record {
 
 module _ (w : Work) (serving done held : List ℕ) (c : ℕ) (b : Balanced w serving done (suc c ∷ held)) where
   -- a reference comes off a cell that keeps others
-  kept : (n : ℕ) → countOf (w .heap) c ≡ suc (suc n) → Balanced (lower w c (suc (suc n))) serving done held
+  kept : (n : ℕ) → countOf (w .heap) c ≡ suc (suc n) → Balanced (lower w c (suc n)) serving done held
   unfolding lower setCount
   kept n e =
       let l : List ℕ = w .heap .count in
@@ -193,8 +193,8 @@ module _ (w : Work) (serving done held : List ℕ) (c : ℕ) (b : Balanced w ser
         distinct = b .distinct;
       }
 
-  lower-balanced : (n : ℕ) → countOf (w .heap) c ≡ n → Balanced (lower w c n) serving done held
-  unfolding lower
+  lower-balanced : (n : ℕ) → countOf (w .heap) c ≡ n → Balanced (lower w c (decremented n)) serving done held
+  unfolding lower decremented
   lower-balanced zero e = absurd (omega (arith, count-above-zero w serving done held c b))
   lower-balanced (suc zero) e = go (finalizable (w .heap) c) refl
     where

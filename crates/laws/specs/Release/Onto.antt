@@ -5,7 +5,7 @@ use mathlib.Core.List.{List, [], _∷_, _++_, append-assoc}
 use mathlib.Core.Bool.{Bool, true, false}
 use mathlib.Core.Path.{_≡_, refl, ap, _∙_}
 use Rattle.rules.specs.Heap.{tables, countOf, setCount, setQueue, enqueue}
-use Rattle.rules.specs.Release.{Work, decref, decrefs, lower, refzero, finalizable}
+use Rattle.rules.specs.Release.{Work, decremented, decref, decrefs, lower, refzero, finalizable}
 
 -- v with these slots and roots, after this work list and these cells freed and queued
 unfoldable pub onto : (slots roots pending freed queued : List ℕ) → Work → Work
@@ -24,14 +24,13 @@ module _ (s r p f q : List ℕ) where
 
   lower-onto : (v : Work) (c n : ℕ) → lower (onto s r p f q v) c n ≡ onto s r p f q (lower v c n)
   unfolding lower onto setCount finalizable
-  lower-onto v c zero = refl
-  lower-onto v c (suc zero) = refzero-onto (finalizable (v .heap) c) v c
-  lower-onto v c (suc (suc n)) = refl
+  lower-onto v c zero = refzero-onto (finalizable (v .heap) c) v c
+  lower-onto v c (suc n) = refl
 
   pub decref-onto : (v : Work) (x : ℕ) → decref (onto s r p f q v) x ≡ onto s r p f q (decref v x)
   unfolding decref onto
   decref-onto v zero = refl
-  decref-onto v (suc c) = lower-onto v c (countOf (v .heap) c)
+  decref-onto v (suc c) = lower-onto v c (decremented (countOf (v .heap) c))
 
   pub decrefs-onto : (v : Work) (l : List ℕ) → decrefs (onto s r p f q v) l ≡ onto s r p f q (decrefs v l)
   unfolding decrefs

@@ -129,6 +129,10 @@ module _ (w : Work) (done outside : List ℕ) (c : ℕ) (rest : List ℕ) (e : w
   served-balanced : Balanced (served w c rest) (c ∷ []) done (emptied (w .heap .slots) c ++ outside)
   served-balanced = decrefs-balanced (withPending w rest) (c ∷ []) done (slotsOf (w .heap .slots) c) (emptied (w .heap .slots) c ++ outside) serve-begin
 
+  -- its own count is 0 when it is freed
+  pub served-count : countOf (served w c rest .heap) c ≡ 0
+  served-count = served-balanced .dead c (omega (arith, occ-here c []))
+
   -- the cell is all zeros, and the next one's turn comes
   pub serve-draining : Draining (serve w c rest) (done ++ (c ∷ [])) outside
   unfolding serve retire wipe

@@ -1,6 +1,4 @@
 -- A full take-off leads from a heap that is sound but for references that are counted and stand nowhere to one that is sound but for one fewer.
--- No `decref` on the way meets a count of zero: that is `counted` of `Decref`, and the balance that it asks for holds at each one,
--- by `sound-settled` here, `release-due` and `serve-begin` of `Serve`, and `decref-balanced` of `Decref`.
 -- Assumes nothing.
 use Prim.Native.Nat.{ℕ, suc, _+_, _≤_}
 use native.Mathlib.Decide.{ℕ-discrete}

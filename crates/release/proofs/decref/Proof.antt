@@ -1,7 +1,7 @@
 -- `release::decref` meets its contract: each way through it is one case of the rules'.
--- The guard's way is never gone, and nothing leans on it: that the count is 1 past the first test is `last-one`. Assumes nothing.
+-- That the count is 1 past the second test is `last-one`. Assumes nothing.
 use native.Mathlib.Omega.{arith}
-use Rattle.release.proofs.Due.{tail-fits, named-due, range, not-zero, last-one}
+use Rattle.release.proofs.Due.{tail-fits, named-due, range, last-one}
 use Rattle.release.proofs.Step.{came-off-none, many, at-zero}
 use borrow.Author.Needs.{needs}
 use Rattle.release.proofs.decref.Statement.{statement}
@@ -36,25 +36,19 @@ same-length : tie.Need-same-length
 same-length c = search needs
 
 returns-2 : tie.Need-returns-2
-returns-2 c = many _ _ _ _ _ _ _ (tail-fits _ _ _ _ _ _ _ _ (c .before .before .before .before .before .before .before .before .before .pre)) _ (c .before .before .if1 .left) (c .if2 .taken)
-
-returns-3 : tie.Need-returns-3
-returns-3 c =
-    absurd
-    (omega (
-      arith,
-      not-zero _ _ _ _ _ _ _ _ (named-due _ _ _ _ _ _ _ _ (c .before .before .before .before .before .before .before .before .before .before .pre) (c .before .before .before .if1 .left)),
-      c .if3 .taken,
-    ))
+returns-2 c =
+    let entry = c .before .before .before .before .before .before .before .before .before in
+    many _ _ _ _ _ _ _ (tail-fits _ _ _ _ _ _ _ _ (entry .pre)) _ (c .before .before .if1 .left) (omega (arith, c .if2 .taken))
 
 refzero-requires : tie.Need-refzero-requires
 refzero-requires c κs =
-    let entry = c .before .before .before .before .before .before .before .before .before .before .before .before .before .before in
-    let if1 = c .before .before .before .before .before .before .before .if1 in
+    let entry = c .before .before .before .before .before .before .before .before .before .before .before .before .before in
+    let if1 = c .before .before .before .before .before .before .if1 in
+    let if2 = c .before .before .before .before .if2 in
     record {
       due = entry .pre;
       some = omega (arith, if1 .left);
-      last = last-one _ _ _ _ _ _ _ _ (named-due _ _ _ _ _ _ _ _ (entry .pre) (if1 .left)) (c .before .before .before .before .before .if2 .left);
+      last = last-one _ _ _ _ _ _ _ _ (named-due _ _ _ _ _ _ _ _ (entry .pre) (if1 .left)) (omega (arith, if2 .left));
     }
 
 same-length-2 : tie.Need-same-length-2
@@ -69,14 +63,16 @@ same-length-4 c = search needs
 same-length-5 : tie.Need-same-length-5
 same-length-5 c = search needs
 
-returns-4 : tie.Need-returns-4
-returns-4 c =
+returns-3 : tie.Need-returns-3
+returns-3 c =
     let entry =
-    c .before .before .before .before .before .before .before .before .before .before .before .before .before .before .before .before .before .before .before .before .before .before .before in
-    let if1 = c .before .before .before .before .before .before .before .before .before .before .before .before .before .before .before .before .if1 in
-    let if2 = c .before .before .before .before .before .before .before .before .before .before .before .before .before .before .if2 in
+    c .before .before .before .before .before .before .before .before .before .before .before .before .before .before .before .before .before .before
+    .before .before .before .before in
+    let if1 = c .before .before .before .before .before .before .before .before .before .before .before .before .before .before .before .if1 in
+    let if2 = c .before .before .before .before .before .before .before .before .before .before .before .before .before .if2 in
+    let refzero = c .before .before .before .before .before .before .before .before .refzero in
     at-zero _ _ _ _ _ _ _ (tail-fits _ _ _ _ _ _ _ _ (entry .pre)) _ (if1 .left) _ _ _ _ _
-    (last-one _ _ _ _ _ _ _ _ (named-due _ _ _ _ _ _ _ _ (entry .pre) (if1 .left)) (if2 .left)) (c .before .before .before .before .before .before .before .before .refzero .ensures)
+    (last-one _ _ _ _ _ _ _ _ (named-due _ _ _ _ _ _ _ _ (entry .pre) (if1 .left)) (omega (arith, if2 .left))) (refzero .ensures)
 
 pub decref-spec : {M : Type 1} → statement M
 decref-spec =
@@ -91,10 +87,9 @@ decref-spec =
     slice-write-count
     same-length
     returns-2
-    returns-3
     refzero-requires
     same-length-2
     same-length-3
     same-length-4
     same-length-5
-    returns-4)
+    returns-3)

@@ -109,7 +109,7 @@ decref-requires : tie.Need-decref-requires Inv-loop μ-loop
 decref-requires c κs =
     let loop = c .before .before .before .before .before .before .loop in
     let loop-test = c .before .before .before .before .before .loop-test in
-    go-due _ _ _ _ _ _ _ _ _ _ _ _ _ _ _ _ (loop .inv) (omega (arith, loop-test .taken))
+    go-due _ _ _ _ _ _ _ _ _ _ _ _ _ _ _ _ (loop .inv) (omega (arith, loop-test .taken)) _ (omega arith)
 
 add-i : tie.Need-add-i Inv-loop μ-loop
 add-i c =
@@ -130,7 +130,7 @@ loop-again c =
     let decref = c .before .before .before .before .before .before .before .before .decref in
     let loop = c .before .before .before .before .before .before .before .before .before .before .before .before .before .before .before .loop in
     let loop-test = c .before .before .before .before .before .before .before .before .before .before .before .before .before .before .loop-test in
-    go-on _ _ _ _ _ _ _ _ _ _ _ _ _ _ _ _ (loop .inv) (omega (arith, loop-test .taken)) _ _ _ _ _ (decref .ensures)
+    go-on _ _ _ _ _ _ _ _ _ _ _ _ _ _ _ _ (loop .inv) (omega (arith, loop-test .taken)) _ (omega arith) _ _ _ _ _ (decref .ensures)
     (decref .kept .1 .1 .0) (decref .kept .1 .1 .1 .0) (decref .kept .1 .1 .1 .1 .0) (decref .kept .1 .1 .1 .1 .1 .0)
 
 same-length : tie.Need-same-length Inv-loop μ-loop

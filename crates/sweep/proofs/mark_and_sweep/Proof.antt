@@ -31,7 +31,7 @@ sweep-unmarked-requires c κs =
     c .before .before .before .before .before .before .before .before .before .before .before .before .before .before .before .before .before .before
     .before .before .before .before .before .before .before .before .before .before .before .before in
     let mark-and-queue = c .before .before .before .before .before .before .before .before .before .before .before .before .before .mark-and-queue in
-    sweep-asks (entry .pre .0) (mark-and-queue .ensures) (mark-and-queue .kept .1 .1 .0)
+    sweep-asks (mark-and-queue .ensures) (entry .pre .0) (mark-and-queue .kept .1 .1 .0)
 
 rescue-marked-requires : tie.Need-rescue-marked-requires
 rescue-marked-requires c κs =
@@ -43,7 +43,7 @@ rescue-marked-requires c κs =
     c .before .before .before .before .before .before .before .before .before .before .before .before .before .before .before .before .before .before
     .before .before .before .before .before .before .mark-and-queue in
     let sweep-unmarked = c .before .before .before .before .before .before .before .before .before .before .sweep-unmarked in
-    let asks = sweep-asks (entry .pre .0) (mark-and-queue .ensures) (mark-and-queue .kept .1 .1 .0) in
+    let asks = sweep-asks (mark-and-queue .ensures) (entry .pre .0) (mark-and-queue .kept .1 .1 .0) in
     asks .1 .0 .0 ∙ sym (sweep-unmarked .kept .1 .0 ∙ entry .pre .0 .fit .flags-size)
 
 returns : tie.Need-returns

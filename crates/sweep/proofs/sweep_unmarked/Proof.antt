@@ -1,15 +1,13 @@
 -- `sweep::sweep_unmarked` meets its contract. Assumes nothing.
-use mathlib.Core.Path.{sym, _∙_}
+use mathlib.Core.Path.{_∙_}
 use Rattle.sweep.proofs.Whole.{rounds-join}
 use Rattle.sweep.proofs.sweep_unmarked.Statement.{statement}
 use Rattle.sweep.proofs.sweep_unmarked.Tie as tie
 
 unlink-unmarked-requires : tie.Need-unlink-unmarked-requires
 unlink-unmarked-requires c κs =
-    let entry = c .before .before .before .before .before .before .before .before in (
-      (sym (entry .pre .0 .count-size), entry .pre .1 .0 .0 ∙ sym (entry .pre .0 .count-size)),
-      (rw (entry .pre .0 .count-size) (record { fit = entry .pre .0 .slots-size; within = entry .pre .1 .1 .0 }), entry .pre .1 .1 .1),
-    )
+    let entry = c .before .before .before .before .before .before .before .before in
+    ((entry .pre .1 .0 .0, entry .pre .0 .slots-size), entry .pre .1 .1)
 
 wipe-unmarked-requires : tie.Need-wipe-unmarked-requires
 wipe-unmarked-requires c κs =

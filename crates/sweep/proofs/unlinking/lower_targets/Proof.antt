@@ -1,12 +1,12 @@
--- `sweep::unlinking::lower_targets` meets its contract: the first `k` slots have come off. Assumes nothing.
-use Prim.Native.Nat.{_+_, _*_, _-_, _≤_}
+-- `sweep::unlinking::lower_targets` meets its contract: the first `k` slots have come off, and the next is counted still. Assumes nothing.
+use Prim.Native.Nat.{_-_, _≤_}
 use native.Mathlib.Omega.{arith}
 use mathlib.Core.Path.{_≡_, refl, _∙_}
 use lib.ListN.{length, take}
 use lib.Dec.{lit≤}
 use Rattle.rules.specs.Heap.{slotsOf}
 use Rattle.sweep.specs.Phases.{TakenOff}
-use Rattle.sweep.proofs.Lowers.{taken-off-start, taken-off-next, taken-off-all}
+use Rattle.sweep.proofs.Lowers.{taken-off-start, taken-off-next, covered-next, taken-off-all}
 use borrow.Author.Needs.{needs}
 use Rattle.sweep.proofs.unlinking.lower_targets.Statement.{statement}
 use Rattle.sweep.proofs.unlinking.lower_targets.Tie as tie
@@ -35,13 +35,15 @@ mul-lower-2 : tie.Need-mul-lower-2 Inv-loop μ-loop
 mul-lower-2 c = search needs
 
 shared-slice-read-lower : tie.Need-shared-slice-read-lower Inv-loop μ-loop
-shared-slice-read-lower c = omega (arith, c .before .before .before .before .before .before .before .pre .0 .fit)
+shared-slice-read-lower c = search needs
 
 lower-requires : tie.Need-lower-requires Inv-loop μ-loop
 lower-requires c κs =
     let entry = c .before .before .before .before .before .before .before in
     let loop = c .before .before .before .before .loop in
-    omega (arith, entry .pre .0 .within (8 * c .before .index .result + loop .k), loop .inv .1)
+    let index = c .before .index in
+    covered-next (entry .args .slots .now) (entry .args .cell .0) (loop .k) _ (entry .pre .0) (omega arith) (omega (arith, index .ensures))
+    (entry .pre .1) (loop .inv .2)
 
 add-k : tie.Need-add-k Inv-loop μ-loop
 add-k c = search needs
@@ -52,13 +54,13 @@ loop-less c = search needs
 loop-again : tie.Need-loop-again Inv-loop μ-loop
 loop-again c =
     let entry = c .before .before .before .before .before .before .before .before .before .before in
-    let cells = length (entry .args .count .now) in
     let loop = c .before .before .before .before .before .before .before .loop in
-    let lower = c .before .before .lower in
-    let off = rw (c .before .before .before .before .index .ensures) at (lower .ensures) in (
+    let index = c .before .before .before .before .index in
+    let lower = c .before .before .lower in (
       omega arith,
       lower .kept .0 ∙ loop .inv .1,
-      taken-off-next (entry .args .slots .now) (entry .args .cell .0) cells (entry .pre .0 .fit) (entry .pre .1) (loop .k) (omega arith) (loop .inv .2) off,
+      taken-off-next (entry .args .slots .now) (entry .args .cell .0) (loop .k) _ (entry .pre .0) (omega arith) (omega (arith, index .ensures))
+          (loop .inv .2) (lower .ensures),
     )
 
 same-length : tie.Need-same-length Inv-loop μ-loop
@@ -67,9 +69,8 @@ same-length c = c .before .loop .inv .1
 returns : tie.Need-returns Inv-loop μ-loop
 returns c =
     let entry = c .before .before .before .before in
-    let cells = length (entry .args .count .now) in
     let loop = c .before .loop in
-    taken-off-all (entry .args .slots .now) (entry .args .cell .0) cells (entry .pre .0 .fit) (entry .pre .1) (loop .k) (omega arith) (loop .inv .2)
+    taken-off-all (entry .args .slots .now) (entry .args .cell .0) (loop .k) (omega arith) (loop .inv .2)
 
 pub lower-targets-spec : {M : Type 1} → statement M
 lower-targets-spec =

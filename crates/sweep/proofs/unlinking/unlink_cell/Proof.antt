@@ -5,7 +5,7 @@ use mathlib.Core.Path.{sym, ap, _∙_}
 use borrow.Author.Tests.{not-true, not-false}
 use lib.ListN.{getD}
 use Rattle.rules.specs.Heap.{plain}
-use Rattle.sweep.proofs.Lowers.{unlinked-none, unlinked-plain, unlinked-one}
+use Rattle.sweep.proofs.Unlinks.{unlinked-none, unlinked-plain, unlinked-one, covered-one}
 use borrow.Author.Needs.{needs}
 use Rattle.sweep.proofs.unlinking.unlink_cell.Statement.{statement}
 use Rattle.sweep.proofs.unlinking.unlink_cell.Tie as tie
@@ -45,12 +45,14 @@ returns-2 c =
     let kind = entry .args .kind .now in
     let at = ap (λ (i : ℕ). plain (getD kind i 0)) (index .ensures) in
     unlinked-plain kind (entry .args .cell .0) (sym (is-garbage .ensures) ∙ not-false _ (if1 .left))
-    (entry .pre .1 .1 .1) (sym at ∙ sym (is-plain .ensures) ∙ if2 .taken)
+    (entry .pre .1 .1 .0) (sym at ∙ sym (is-plain .ensures) ∙ if2 .taken)
 
 lower-targets-requires : tie.Need-lower-targets-requires
 lower-targets-requires c κs =
     let entry = c .before .before .before .before .before .before .before .before .before .before .before in
-    (entry .pre .1 .0, entry .pre .1 .1 .0)
+    let is-garbage = c .before .before .before .before .before .before .is-garbage in
+    let if1 = c .before .before .before .before .before .if1 in
+    (entry .pre .1 .0, covered-one (entry .args .cell .0) (sym (is-garbage .ensures) ∙ not-false _ (if1 .left)) (entry .pre .1 .1 .1))
 
 same-length : tie.Need-same-length
 same-length c = search needs

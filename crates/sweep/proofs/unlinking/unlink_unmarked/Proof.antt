@@ -1,11 +1,11 @@
--- `sweep::unlinking::unlink_unmarked` meets its contract: the slots of the garbage below `c` have come off. Assumes nothing.
+-- `sweep::unlinking::unlink_unmarked` meets its contract: the slots of the garbage below `c` have come off, and the others are counted still. Assumes nothing.
 use Prim.Native.Nat.{_-_, _≤_}
 use native.Mathlib.Omega.{arith}
 use mathlib.Core.Path.{_≡_, refl, _∙_}
 use lib.ListN.{length}
 use Rattle.rules.specs.Lists.{select}
 use Rattle.sweep.specs.Phases.{isGarbage, Unlinked}
-use Rattle.sweep.proofs.Lowers.{unlinked-start, unlinked-next}
+use Rattle.sweep.proofs.Unlinks.{unlinked-start, unlinked-next, slots-covered-next}
 use borrow.Author.Needs.{needs}
 use Rattle.sweep.proofs.unlinking.unlink_unmarked.Statement.{statement}
 use Rattle.sweep.proofs.unlinking.unlink_unmarked.Tie as tie
@@ -44,7 +44,9 @@ unlink-cell-requires c κs =
     let cell = c .before .before .cell .given in
     let is = rw (cell .1) at (of .ensures) in
     let here : cell .0 .0 .0 ≡ loop .c = omega arith in
-    ((omega arith, omega arith), (rw (loop .inv .1) (entry .pre .1 .0), (omega arith, entry .pre .1 .1)))
+    let kind = entry .args .kind .now in
+    let still = slots-covered-next (isGarbage kind (entry .args .marks .now)) (loop .c) (loop .inv .2) (length kind) (omega arith) (entry .pre .1 .1) in
+    ((omega arith, omega arith), (omega (arith, entry .pre .0 .1), (entry .pre .1 .0, rw here still)))
 
 add-c : tie.Need-add-c Inv-loop μ-loop
 add-c c = omega arith
