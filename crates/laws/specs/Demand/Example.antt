@@ -14,7 +14,8 @@ use Rattle.rules.specs.Release.{start, raise, incref, finalizable, refzero, dec
 use Rattle.rules.specs.Marking.{mark, markIf, spreadFrom, spread, closure, markFrom}
 use Rattle.rules.specs.Collect.{reachedMarks, unreachedFinalizable, enqueueAll, keptMarks, garbage, lowerAll, unlinkAll, wipeAll, rescued, rescueAll, swept, collect}
 use Rattle.rules.specs.Calls.{refuse, done, finished, allocate, writeRoot, writeSlot, startRun, leaveQueue, finishRun, act, byRefusal, step, answers, Did, Event, Trace, Begins, run}
-use Rattle.rules.specs.Counts.{met, decrefsMet, serveMet, drainMet, releaseMet, lowerAllMet, unlinkAllMet, collectMet, writeRootMet, writeSlotMet, finishRunMet, actMet, byRefusalMet, stepMet, runMet, examples, MetExamples}
+use Rattle.rules.specs.Counts.{met, decrefsMet, serveMet, drainMet, releaseMet, lowerAllMet, unlinkAllMet, collectMet, writeRootMet, writeSlotMet, finishRunMet}
+use Rattle.rules.specs.Counts.{actMet, byRefusalMet, stepMet, runMet, examples, MetExamples}
 use Rattle.laws.specs.Demand.Events.{run-trace}
 
 -- tables for two cells: their kinds, flags and counts, the first slot of cell 0, the first two roots, the first queue entry, and control
