@@ -161,6 +161,9 @@ examples =
     -- K10: a cascade that queues two
     ∷ meets (NEW 0 1 0 ∷ NEW 1 1 1 ∷ NEW 2 1 1 ∷ STORE 0 0 2 ∷ STORE 0 1 1 ∷ CLEAR 1 ∷ CLEAR 2 ∷ CLEAR 0 ∷ [])
     ([] ∷ [] ∷ [] ∷ [] ∷ [] ∷ (2 ∷ []) ∷ (2 ∷ []) ∷ (1 ∷ 1 ∷ 1 ∷ []) ∷ [])
+    -- a chain of three: a cascade that takes off the slots of one cell after another
+    ∷ meets (NEW 0 1 0 ∷ NEW 1 1 0 ∷ NEW 2 2 0 ∷ STORE 0 0 1 ∷ STORE 1 0 2 ∷ CLEAR 2 ∷ CLEAR 1 ∷ CLEAR 0 ∷ [])
+    ([] ∷ [] ∷ [] ∷ [] ∷ [] ∷ (2 ∷ []) ∷ (2 ∷ []) ∷ (1 ∷ 1 ∷ 1 ∷ []) ∷ [])
     -- a slot that is written again
     ∷ meets (NEW 0 1 0 ∷ NEW 1 1 0 ∷ STORE 0 7 1 ∷ STORE 0 7 0 ∷ []) ([] ∷ [] ∷ [] ∷ (2 ∷ []) ∷ [])
     -- a sweep of one that holds itself in three slots and, in a fourth, what a root holds too
