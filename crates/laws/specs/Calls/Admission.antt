@@ -5,7 +5,7 @@ use native.Mathlib.Omega.{arith}
 use mathlib.Core.List.{List}
 use mathlib.Core.Bool.{true, false, cond}
 use mathlib.Core.Logic.{_≢_, _⊎_, inl, inr, ⊎-elim}
-use mathlib.Core.Path.{_≡_, refl, sym, ap, _∙_}
+use mathlib.Core.Path.{_≡_, refl, sym, ap, _∙_, subst⁻¹}
 use lib.ListN.{length, replicate, length-replicate}
 use Rattle.rules.specs.declared.Answer.{Answer}
 use Rattle.rules.specs.Heap.{Heap, tables, cells, fresh}
@@ -41,6 +41,10 @@ pub did-act : (h after : Heap) (call : Call) (a : Answer) → refusal h call ≡
 did-act h after call a e f g =
     let s = step-done h call e in
     record { heap = f ∙ sym (ap (λ (x : Result). x .heap) s); answered = g ∙ sym (ap (λ (x : Result). x .answer) s) }
+
+-- what holds of the tables and the answer that `step` gives holds of those of the call
+pub did-as : {call : Call} {h after : Heap} {a : Answer} (P : Heap → Answer → Type 0) → Did call h after a → P (step h call .heap) (step h call .answer) → P after a
+did-as {call} {h} {a = a} P d p = subst⁻¹ (λ (g : Heap). P g a) (d .heap) (subst⁻¹ (λ (b : Answer). P (step h call .heap) b) (d .answered) p)
 
 -- heaps of equal tables
 pub tables-eq : {k k′ f f′ n n′ s s′ r r′ q q′ w w′ : List ℕ} → k ≡ k′ → f ≡ f′ → n ≡ n′ → s ≡ s′ → r ≡ r′ → q ≡ q′ → w ≡ w′

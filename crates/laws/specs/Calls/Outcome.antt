@@ -27,7 +27,7 @@ use Rattle.laws.specs.Release.Balance.{Advance}
 use Rattle.laws.specs.Collect.Live.{garbage-once}
 use Rattle.laws.specs.Collect.Left.{collect-left}
 use Rattle.laws.specs.Collect.Swept.{collect-sound, collect-kept, collect-freed, freed-collect}
-use Rattle.laws.specs.Counts.Noted.{Noted, noted-nothing}
+use Rattle.laws.specs.Counts.Noted.{Noted, noted-nothing, noted-from}
 use Rattle.laws.specs.Counts.Cascade.{NotedWork}
 use Rattle.laws.specs.Counts.Sweep.{collect-noted}
 
@@ -71,7 +71,7 @@ outcome-advance h written left met placed v cells joined kinds es a s raised n =
       freed = λ c b. (omega (arith, was c, a .used c (omega (arith, list c))), a .noKind c (omega (arith, list c)));
       all = λ c u f. by-cases (decLt 0 (occ c cells)) (λ o. omega (arith, list c)) (λ n. absurd (omega (arith, was c, a .kind c (omega arith))));
       entered = a .entered ∙ ap (λ (l : List ℕ). l ++ map suc joined) es ∙ ap (λ (l : List ℕ). drop left (entries h) ++ map suc l) (sym (a .queued));
-      noted = record { none = n .none; balance = omega (arith, n .balance) };
+      noted = noted-from placed raised n;
     }
 
 pub outcome-collect : (h : Heap) → SoundBut h [] → Outcome h (h .slots) 0 (collectMet h) 0 (collect h)
@@ -83,7 +83,7 @@ outcome-collect h s = record {
   freed = collect-freed h s;
   all = freed-collect h s;
   entered = collect-left h s .entriesAre;
-  noted = let n = collect-noted h s in record { none = n .none; balance = omega (arith, n .balance) };
+  noted = noted-from 0 (omega arith) (collect-noted h s);
 }
 
 -- the number of cells listed as freed is the number of those used before and free after

@@ -77,7 +77,7 @@ module _ (h : Heap) (s : SoundBut h []) where
 
   -- Every reference that the first round takes off is counted, and after the queueing all the more. It is read off what a wiping of the same cells
   -- would do with the slots, since no cell is among the garbage twice.
-  pub unlink-counted : SlotsCovered (h .slots) (h .count) dead
+  unlink-counted : SlotsCovered (h .slots) (h .count) dead
   unlink-counted =
       let gone : Emptied h (wipeAll h dead) dead =
       emptied-all h dead (s .shaped .plainSlots) (garbage-once h s) (λ x b. omega (arith, s .slots, inside (h .kind) x (garbage-only h s x b .0))) in
@@ -155,15 +155,15 @@ module _ (h : Heap) (s : SoundBut h []) where
   lost c = heldBy (h .slots) dead (suc c)
 
   -- after the first round
-  pub unlinked-count : (c : ℕ) → countOf h2 c + lost c ≡ countOf h c + occ c due
-  unlinked-count c = omega (arith, phase2 .count c, phase1 .count c, ap (λ (l : List ℕ). heldBy l dead (suc c)) (phase1 .slots))
+  pub first-round-count : (c : ℕ) → countOf h2 c + lost c ≡ countOf h c + occ c due
+  first-round-count c = omega (arith, phase2 .count c, phase1 .count c, ap (λ (l : List ℕ). heldBy l dead (suc c)) (phase1 .slots))
 
   -- the last phase writes no counts
   pub rescued-count : final .count ≡ swept h .count
   rescued-count = phase4 .count
 
   count-out : (c : ℕ) → occ c dead ≡ 0 → countOf final c + lost c ≡ countOf h c + occ c due
-  count-out c o = omega (arith, ap (λ (l : List ℕ). getD l c 0) rescued-count, phase3 .countOut c o, unlinked-count c)
+  count-out c o = omega (arith, ap (λ (l : List ℕ). getD l c 0) rescued-count, phase3 .countOut c o, first-round-count c)
 
   count-in : (c : ℕ) → 1 ≤ occ c dead → countOf final c ≡ 0
   count-in c b = ap (λ (l : List ℕ). getD l c 0) rescued-count ∙ phase3 .countIn c b

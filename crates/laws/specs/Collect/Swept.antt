@@ -18,7 +18,7 @@ use Rattle.laws.specs.Sound.But.{refit, Shaped, QueueOk, SoundBut}
 use Rattle.laws.specs.Reach.Used.{holds-occ, link-owner, reached-used}
 use Rattle.laws.specs.Reach.Safe.{Kept}
 use Rattle.laws.specs.Collect.Live.{Live, due-only, due-room, queued-once, entry-reached, live-reached, live-due, live-link, live-least, live-out, out-live, garbage-only}
-use Rattle.laws.specs.Collect.Left.{Left, unlinked-count, collect-left}
+use Rattle.laws.specs.Collect.Left.{Left, first-round-count, collect-left}
 
 module _ (h : Heap) (s : SoundBut h []) where
   abbrev due : List ℕ
@@ -112,7 +112,7 @@ module _ (h : Heap) (s : SoundBut h []) where
   -- so every reference to it came off in the first round
   pub garbage-spent : (c : ℕ) → 1 ≤ occ c (garbage h) → countOf (unlinkAll (enqueueAll h (unreachedFinalizable h)) (garbage h)) c ≡ 0
   garbage-spent c b =
-      omega (arith, unlinked-count h s c, unreferred c b, s .counted c, left .slotsOcc c, entries-occ c, ap (occ (suc c)) (left .roots), occ-nil (suc c))
+      omega (arith, first-round-count h s c, unreferred c b, s .counted c, left .slotsOcc c, entries-occ c, ap (occ (suc c)) (left .roots), occ-nil (suc c))
 
   final-counted : (c : ℕ) → countOf final c ≡ occ (suc c) (final .roots) + occ (suc c) (final .slots) + occ (suc c) (entries final) + occ (suc c) []
   final-counted c =

@@ -34,6 +34,10 @@ pub record Noted (count : List ℕ) (p : ℕ) (after : List ℕ) (q : ℕ) (l : 
 pub noted-nothing : {count after : List ℕ} {p q : ℕ} → sum after + p ≡ sum count + q → Noted count p after q []
 noted-nothing e = record { none = occ-nil 0; balance = omega (arith, e) }
 
+-- k counts rose before it
+pub noted-from : {count raised after l : List ℕ} {q : ℕ} (k : ℕ) → sum raised ≡ sum count + k → Noted raised 0 after q l → Noted count 0 after (q + k) l
+noted-from k e n = record { none = n .none; balance = omega (arith, n .balance, e) }
+
 -- one count, which was not zero, becomes v
 pub noted-one : (count : List ℕ) (c v p q : ℕ) → 1 ≤ getD count c 0 → v + 1 + p ≡ getD count c 0 + q → Noted count p (set count c v) q (getD count c 0 ∷ [])
 noted-one count c v p q some e = record {

@@ -4,7 +4,7 @@ use Prim.Native.Nat.{ℕ, zero, suc, _+_, _<_}
 use native.Mathlib.Omega.{arith}
 use mathlib.Core.List.{[], _∷_}
 use mathlib.Core.Bool.{false}
-use mathlib.Core.Path.{_≡_, refl, sym, _∙_, ap, subst⁻¹}
+use mathlib.Core.Path.{_≡_, refl, sym, _∙_, ap}
 use lib.ListN.{length, getD, set}
 use lib.Seq.{getD-set-same}
 use Rattle.rules.specs.declared.Answer.{Answer}
@@ -19,7 +19,7 @@ use Rattle.rules.specs.Counts.{met, actMet, byRefusalMet, stepMet, placed, Abov
 use Rattle.laws.specs.Lists.Occ.{occ-nil}
 use Rattle.laws.specs.Sound.But.{SoundBut}
 use Rattle.laws.specs.Sound.Facts.{ready-facts, facts-ready}
-use Rattle.laws.specs.Calls.Admission.{ready-refused}
+use Rattle.laws.specs.Calls.Admission.{did-as, ready-refused}
 use Rattle.laws.specs.Calls.Arguments.{by-fresh}
 use Rattle.laws.specs.Calls.Done.{performed}
 use Rattle.laws.specs.Demand.Events.{found-sound, begins-sound}
@@ -54,9 +54,7 @@ module _ (h : Heap) (s : SoundBut h []) where
   above-zero = by-fresh fresh-above eight-above
 
 did-above : {call : Call} {before after : Heap} {answer : Answer} → Did call before after answer → SoundBut before [] → AboveZero call before after answer
-did-above {call} {before} {after} {answer} d s =
-    subst⁻¹ (λ (g : Heap). AboveZero call before g answer) (d .heap)
-    (subst⁻¹ (λ (a : Answer). AboveZero call before (step before call .heap) a) (d .answered) (above-zero before s call))
+did-above {call} {before} d s = did-as (AboveZero call before) d (above-zero before s call)
 
 -- ---- a count met at zero
 

@@ -3,7 +3,6 @@
 use mathlib.Core.List.{List, []}
 use mathlib.Core.Path.{_≡_, _∙_, ap, subst⁻¹}
 use mathlib.Core.Logic.{Iff·trans}
-use Rattle.rules.specs.declared.Answer.{Answer}
 use Rattle.rules.specs.Heap.{Heap}
 use Rattle.rules.specs.Reach.{Exact}
 use Rattle.rules.specs.Refusals.{Call}
@@ -13,6 +12,7 @@ use Rattle.rules.specs.Demand3.{stood, Safe, Claim, Demand3}
 use Rattle.laws.specs.Sound.But.{SoundBut}
 use Rattle.laws.specs.Reach.Safe.{Kept, frees-unreached}
 use Rattle.laws.specs.Collect.Swept.{collect-exact}
+use Rattle.laws.specs.Calls.Admission.{did-as}
 use Rattle.laws.specs.Demand.Step.{good-step}
 use Rattle.laws.specs.Demand.Events.{did-sound, found-sound, between-sound, begins-sound}
 use Rattle.laws.specs.Demand.Sweep.{swept-heap, counted-at, quiet-at, answered-at}
@@ -20,8 +20,7 @@ use Rattle.laws.specs.Demand.Sweep.{swept-heap, counted-at, quiet-at, an
 did-safe : (h : Heap) (e : Event) → SoundBut h [] → Did (e .call) h (e .after) (e .answer) → Safe h e
 did-safe h e s d =
     let kept : Kept (e .after) (stood h (e .call) (e .answer .refused)) =
-    subst⁻¹ (λ (t : Heap). Kept t (stood h (e .call) (e .answer .refused))) (d .heap)
-    (subst⁻¹ (λ (a : Answer). Kept (step h (e .call) .heap) (stood h (e .call) (a .refused))) (d .answered) (good-step h s (e .call) .kept)) in
+    did-as (λ g a. Kept g (stood h (e .call) (a .refused))) d (good-step h s (e .call) .kept) in
     frees-unreached h (e .after) (stood h (e .call) (e .answer .refused)) (did-sound s d) kept
 
 claim : (h : Heap) → SoundBut h [] → (l : List Event) → Trace h l → Claim h l
