@@ -6,11 +6,13 @@ DESTDIR ?=
 
 SOURCES := $(shell find crates crates.txt -type f)
 PROGRAM = target/bin/counter
+AUDITOR = target/bin/auditor
 ARCHIVE = target/staticlib/libheap_c.a
 HOST = target/host
 SLOW_LINE = target/slow_line
+DUMP = target/dump
 
-.PHONY: help run host slow-line test install uninstall
+.PHONY: help run audit host slow-line dump test install uninstall
 
 help: ## this list
 	@awk -F ':.*## ' 'NF == 2 && /^[a-z]/ { printf "make %-9s  %s\n", $$1, $$2 }' Makefile
@@ -18,22 +20,29 @@ help: ## this list
 run: $(PROGRAM) ## the program, on standard input: make -s run < examples/basket.csv
 	@$(PROGRAM)
 
+audit: $(AUDITOR) ## the audit of heaps that come as text, on standard input: make -s audit < examples/boxes.csv
+	@$(AUDITOR)
+
 host: $(HOST) ## the example of an engine in C, examples/host.c
 	@$(HOST)
 
 slow-line: $(SLOW_LINE) ## the example of calls that arrive in bits, examples/slow_line.c: make -s slow-line < examples/basket.csv
 	@$(SLOW_LINE)
 
+dump: $(DUMP) ## the example of heaps sent for the audit, examples/dump.c: make -s dump | make -s audit
+	@$(DUMP)
+
 test: ## the whole gate
 	@.ci/run
 
 # Standard output and standard input are the program's own: what the proofs say goes to standard error.
 $(PROGRAM): PROOF = check counter
+$(AUDITOR): PROOF = check auditor
 $(ARCHIVE): PROOF = staticlib heap_c
-$(PROGRAM) $(ARCHIVE): $(SOURCES)
+$(PROGRAM) $(AUDITOR) $(ARCHIVE): $(SOURCES)
 	@tools/prove $(PROOF) && touch -c $@
 
-$(HOST) $(SLOW_LINE): target/%: examples/%.c include/vekszalir.h $(ARCHIVE)
+$(HOST) $(SLOW_LINE) $(DUMP): target/%: examples/%.c include/vekszalir.h $(ARCHIVE)
 	@$(CC) -std=c11 -O2 -Wall -Wextra -Iinclude -o $@ $< $(ARCHIVE)
 
 install: $(ARCHIVE) ## the archive, its header and a pkg-config file, below PREFIX (/usr/local); DESTDIR goes in front

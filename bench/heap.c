@@ -14,7 +14,7 @@ typedef struct {
 
 static vek_answer refuse(uint16_t why) { return (vek_answer){why, 0, 0, 0}; }
 
-static int fits(VEK_TABLES)
+int c_fits(VEK_TABLES)
 {
     (void)kind, (void)flags, (void)count, (void)slots, (void)roots, (void)queue, (void)control;
     return kind_len >= 1 && kind_len <= VEK_CELLS_MAX && flags_len == kind_len && count_len == kind_len &&
@@ -238,7 +238,7 @@ static vek_answer collect(heap *h)
 
 #define HEAP                                                                                         \
     heap h = {kind, flags, count, slots, roots, queue, control, kind_len};                           \
-    if (!fits(kind, kind_len, flags, flags_len, count, count_len, slots, slots_len, roots,           \
+    if (!c_fits(kind, kind_len, flags, flags_len, count, count_len, slots, slots_len, roots,           \
               roots_len, queue, queue_len, control, control_len))                                    \
         return refuse(VEK_SIZE);
 

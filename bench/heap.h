@@ -4,6 +4,7 @@
 
 #include "../include/vekszalir.h"
 
+int c_fits(VEK_TABLES);
 vek_answer c_fresh(VEK_TABLES);
 vek_answer c_new(VEK_TABLES, size_t root, size_t new_kind, size_t finalizer);
 vek_answer c_clear(VEK_TABLES, size_t root);
@@ -13,5 +14,7 @@ vek_answer c_store(VEK_TABLES, size_t object, size_t slot, size_t from);
 vek_answer c_collect(VEK_TABLES);
 vek_answer c_start(VEK_TABLES, size_t root);
 vek_answer c_finish(VEK_TABLES);
+vek_audited c_audit(VEK_TABLES, int32_t *differences, size_t differences_len, vek_report report);
+uint8_t *c_cell_line(uint8_t *out, uint32_t heap, uint32_t cell, int32_t difference);
 
 #endif

@@ -11,11 +11,36 @@
 
 static VEK_STORAGE(N) heap;
 
+static int32_t differences[N];
+
 static int proved;
+
+/* The audit of either heap; the answer is a digest of its row. */
+static vek_answer audit(void)
+{
+    vek_report report = VEK_REPORT_START;
+    vek_audited a = proved ? vek_audit(VEK_LEND(heap), VEK_LEND_TABLE(differences), report)
+                           : c_audit(VEK_LEND(heap), VEK_LEND_TABLE(differences), report);
+    return (vek_answer){a.refused, (uint16_t)a.heap.below, (uint16_t)a.heap.above, (uint16_t)a.heap.sum};
+}
+
+/* All cell lines by the C version; the answer's number of cells is that of the lines. */
+static vek_answer cell_lines(void)
+{
+    static uint8_t lines[64 * N];
+    uint8_t *end = lines;
+    for (uint32_t c = 0; c < N; c++)
+        end = c_cell_line(end, 1, c, differences[c]);
+    return (vek_answer){end == lines, N, 0, 0};
+}
 
 /* A call of either heap. */
 static vek_answer call(int op, size_t a, size_t b, size_t c)
 {
+    if (op == 9)
+        return audit();
+    if (op == 10)
+        return cell_lines();
     if (!proved) {
         switch (op) {
         case 1: return c_new(VEK_LEND(heap), a, b, c);
@@ -139,6 +164,29 @@ static void queue_cell_0(void)
     heap.control[0] = 1;
 }
 
+/* A random graph in which two counts of three are off: one too high, one too low. */
+static void wrong_counts(void)
+{
+    graph();
+    for (size_t c = 0; c < N; c++)
+        heap.count[c] = (uint16_t)(c % 3 == 0 ? heap.count[c] : c % 3 == 1 ? heap.count[c] + c : heap.count[c] / 2);
+}
+
+/* A line of a dump: a table's entries. */
+static void write_table(const uint16_t *table, size_t len)
+{
+    for (size_t i = 0; i < len; i++)
+        printf(i ? ",%u" : "%u", table[i]);
+    printf("\r\n");
+}
+
+static void write_tables(void)
+{
+    write_table(VEK_LEND_TABLE(heap.kind)), write_table(VEK_LEND_TABLE(heap.flags)), write_table(VEK_LEND_TABLE(heap.count));
+    write_table(VEK_LEND_TABLE(heap.slots)), write_table(VEK_LEND_TABLE(heap.roots)), write_table(VEK_LEND_TABLE(heap.queue));
+    write_table(VEK_LEND_TABLE(heap.control));
+}
+
 /* What becomes of a call of the morning: it is made, or written as a line for the program. */
 typedef void action(int op, size_t a, size_t b, size_t c);
 
@@ -199,6 +247,13 @@ int main(int argc, char **argv)
         eight_strings(), a = measured(2, 0, 0, 0);
     } else if (!strcmp(name, "collect-strings")) {
         ring_of_strings(), a = measured(6, 0, 0, 0);
+    } else if (!strcmp(name, "audit")) {
+        wrong_counts(), a = measured(9, 0, 0, 0);
+    } else if (!strcmp(name, "cell-lines")) {
+        wrong_counts(), audit(), a = measured(10, 0, 0, 0);
+    } else if (!strcmp(name, "dump")) {
+        wrong_counts(), write_tables();
+        return 0;
     } else if (!strcmp(name, "basket")) {
         calls = morning(make);
     } else if (!strcmp(name, "lines")) {

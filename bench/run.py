@@ -13,6 +13,8 @@ import tempfile
 TOP = pathlib.Path(__file__).resolve().parent.parent
 ARCHIVE = TOP / "target" / "staticlib" / "libheap_c.a"
 PROGRAM = TOP / "target" / "bin" / "counter"
+AUDITOR = TOP / "target" / "bin" / "auditor"
+CELLS = 1024
 LINES = 100_000
 
 # What is measured, and the most that the proved heap may take of the C version.
@@ -29,14 +31,16 @@ CASES = [
     ("clear-chain", "CLEAR that frees 1,024", 1.00),
     ("clear-strings", "CLEAR that frees an object with 8 strings", 0.90),
     ("collect-strings", "COLLECT that frees 896 strings, 128 objects", 0.90),
+    ("audit", "the audit of a heap, two counts of three wrong", 1.00),
 ]
+CELL_LINE = "a cell's line of the audit's report, on average", 1.20
 UNCHECKED = 700  # the most instructions of a basket call without its check
 LINE = 1000  # and of a line of the program
 
 
 def built(folder, cells):
     program = folder / f"bench-{cells}"
-    sources = [TOP / "bench" / "main.c", TOP / "bench" / "heap.c"]
+    sources = [TOP / "bench" / f"{name}.c" for name in ("main", "heap", "audit")]
     subprocess.run(["gcc", "-O2", "-g", f"-DN={cells}", "-o", program, *sources, ARCHIVE], check=True)
     return program
 
@@ -60,17 +64,44 @@ def inclusive(out, pattern):
     return sum(int(m.group(1).replace(",", "")) for m in re.finditer(r"^\s*([\d,]+) .*", text, re.M) if re.search(pattern, m.group(0)))
 
 
+def row(words, c, p, goal):
+    """A line of the table; whether the goal is missed."""
+    print(f"{words:<50} {c:>9,} {p:>9,} {p / c:>6.2f} {goal:>6.2f}")
+    return p > goal * c
+
+
+def audited(folder, heap):
+    """Instructions of the program that audits one heap, given as text."""
+    text = folder / "heap.csv"
+    text.write_bytes(heap)
+    with text.open() as stdin:
+        total, report, _ = callgrind(folder, [AUDITOR], stdin=stdin)
+    return total, report.count("\n1,")
+
+
+def cell_lines(folder, program, audit):
+    """Instructions for the cell lines of a heap: in C, and in the program, where they are what is left when reading the same heap, refused
+    SIZE for an entry too many, and its audit are taken off. The system calls that write them are still in it."""
+    c, said, _ = measured(folder, program, "c", "cell-lines")
+    heap = subprocess.run([program, "c", "dump"], capture_output=True, check=True).stdout
+    whole, lines = audited(folder, heap)
+    refused, line = audited(folder, heap.removesuffix(b"\r\n") + b",0\r\n")
+    assert (lines, line, said[1]) == (CELLS + 1, 1, CELLS), (lines, line, said)
+    return c, whole - refused - audit
+
+
 def compare(folder):
     """A row for each case; the number of goals that are missed."""
-    program, missed = built(folder, 1024), 0
+    program, missed = built(folder, CELLS), 0
     print(f"{'1,024 cells':<50} {'C':>9} {'proved':>9} {'ratio':>6} {'goal':>6}")
     for case, words, goal in CASES:
         c, said_c, _ = measured(folder, program, "c", case)
         p, said_p, _ = measured(folder, program, "proved", case)
         assert said_c == said_p, (case, said_c, said_p)
-        missed += p > goal * c
-        print(f"{words:<50} {c:>9,} {p:>9,} {p / c:>6.2f} {goal:>6.2f}")
-    return missed
+        missed += row(words, c, p, goal)
+    words, goal = CELL_LINE
+    c, p = cell_lines(folder, program, p)  # the last case is the audit
+    return missed + row(words, c // CELLS, p // CELLS, goal)
 
 
 def unchecked(folder, program):
@@ -104,7 +135,7 @@ def averages(folder):
 
 
 def main():
-    subprocess.run(["make", *(path.relative_to(TOP) for path in (ARCHIVE, PROGRAM))], cwd=TOP, check=True, stdout=subprocess.DEVNULL)
+    subprocess.run(["make", *(path.relative_to(TOP) for path in (ARCHIVE, PROGRAM, AUDITOR))], cwd=TOP, check=True, stdout=subprocess.DEVNULL)
     with tempfile.TemporaryDirectory() as name:
         missed = compare(pathlib.Path(name)) + averages(pathlib.Path(name))
     print("all goals reached" if missed == 0 else f"{missed} goals missed")

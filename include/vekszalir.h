@@ -44,7 +44,7 @@
 extern "C" {
 #endif
 
-#define VEK_VERSION "1.2.2"
+#define VEK_VERSION "1.3.0"
 
 /* Limits. */
 #define VEK_CELLS_MAX 1024
@@ -76,6 +76,8 @@ extern "C" {
 #define VEK_NONE 9     /* vek_start with an empty queue */
 #define VEK_IDLE 10    /* vek_finish with no finalizer running */
 #define VEK_LINE 11    /* a line that names no call; only a line is refused so */
+#define VEK_TOTAL 12   /* vek_audit: no list of heaps leads to the report */
+#define VEK_MANY 14    /* vek_audit: the report has a thousand heaps */
 
 typedef struct {
     uint16_t refused, freed, queued, cell;
@@ -97,6 +99,8 @@ static inline const char *vek_refusal_name(uint16_t refused)
     case VEK_NONE: return "NONE";
     case VEK_IDLE: return "IDLE";
     case VEK_LINE: return "LINE";
+    case VEK_TOTAL: return "TOTAL";
+    case VEK_MANY: return "MANY";
     default: return "unknown";
     }
 }
@@ -203,6 +207,55 @@ vek_progress vek_take(VEK_TABLES, vek_reader reader, const uint8_t *bytes, size_
    a new input. But where a line is held and `out` has no room for a longest answer, nothing is done, and the reader
    comes back as it was, not all zeros: end again, with more room. `taken` is 0. */
 vek_progress vek_end(VEK_TABLES, vek_reader reader, uint8_t *out, size_t out_len);
+
+/* An audit of heaps, sound or not: how far each stored count is off.
+
+   A cell's difference is its stored count minus the references to it: every entry of roots, slots and queue that holds
+   it counts, the slots of free cells and the entries past the queue's length too. It is below zero where the stored
+   count is too low. Free cells have one as well. A reference above N names no cell: it is lost, and counts for none.
+   In a sound heap every difference is 0 and nothing is lost.
+
+   A row has the cells below, at and above zero, the sum of their differences, the lost references, and the heaps that
+   were refused SIZE; a heap's own has 0 or 1 of these. A report has the number of heaps that it has taken and their
+   rows added up. VEK_REPORT_START, all zeros, has none:
+
+       vek_report report = VEK_REPORT_START;
+       int32_t differences[256];
+       for (each heap) {
+           vek_audited a = vek_audit(VEK_LEND(heap), differences, 256, report);
+           report = a.report;
+           (a.heap is the heap's row; unless a.refused, differences[c] is that of cell c)
+       } */
+typedef struct {
+    uint64_t below, at, above;
+    int64_t sum;
+    uint64_t lost, size;
+} vek_row;
+
+typedef struct {
+    uint64_t heaps;
+    vek_row totals;
+} vek_report;
+
+typedef struct {
+    uint16_t refused;
+    vek_row heap;
+    vek_report report;
+} vek_audited;
+
+#define VEK_REPORT_START {0, {0, 0, 0, 0, 0, 0}}
+
+/* A report takes so many heaps, those refused SIZE counted. */
+#define VEK_HEAPS_MAX 1000
+
+/* Audits a report's next heap. The heap's tables are only read; the entries of `differences`, which has to be N long
+   like the heap's own tables, become the cells' differences. Refused, the first that holds:
+   MANY    the report has a thousand heaps already;
+   TOTAL   no list of heaps leads to the report, which never happens to one that started empty and that nobody else wrote;
+   SIZE    the lengths don't fit: the heap's row is 1 heap refused SIZE and nothing else, and the report takes it so.
+   MANY and TOTAL change nothing: the heap's row is all zeros, and the report comes back as it was. No refusal writes to
+   `differences`. */
+vek_audited vek_audit(VEK_TABLES, int32_t *differences, size_t differences_len, vek_report report);
 
 #ifdef __cplusplus
 }

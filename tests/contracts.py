@@ -15,7 +15,7 @@ def in_file(path, prefix):
         if match[1]:
             type_name = f"{match[1]}::"
             continue
-        head = text[match.end():text.index(f"\n{match[2]}{{\n", match.end())]
+        head = text[match.end():re.compile(rf"(?: |\n{match[2]}){{\n").search(text, match.end()).start()]
         if "ensures" in head:
             yield prefix + (type_name if match[2] else "") + match[3]
 

@@ -7,16 +7,19 @@
 - examples/host.c, as C and as C++, prints what examples/host.txt says, with the header's version for @VERSION@.
 - examples/slow_line.c, as C and as C++, answers each line before the next bit of its input is sent, and in all as the
   program does, without the header; where it can't read or write it says so and fails.
+- What examples/dump.c, as C and as C++, sends is audited as its two heaps are. Where the audit can't read or write it says so,
+  and writes no wrong line.
 - `make install` into an empty folder gives a package of the header's version that the example builds with, by
   pkg-config alone; `make uninstall` leaves no file there.
-- `make` lists every target. `make run` writes what the program writes, and beside it one line for each crate; a crate
-  that is not proved is shown with what the prover says, and fails.
+- `make` lists every target. `make run` and `make audit` write what the programs write, and beside it one line for each
+  crate; a crate that is not proved is shown with what the prover says, and fails.
 
 The last line printed is 'N passed, M failed'.
 """
 import os
 import pathlib
 import re
+import resource
 import shutil
 import subprocess
 import sys
@@ -31,9 +34,12 @@ import known  # noqa: E402
 
 ARCHIVE = TOP / "target" / "staticlib" / "libheap_c.a"
 PROGRAM = TOP / "target" / "bin" / "counter"
+AUDITOR = TOP / "target" / "bin" / "auditor"
 EXAMPLE = TOP / "examples" / "host.c"
 SLOW_LINE = TOP / "examples" / "slow_line.c"
+DUMP = TOP / "examples" / "dump.c"
 BASKET = TOP / "examples" / "basket.csv"
+BOXES = TOP / "examples" / "boxes.csv"
 INCLUDE = f"-I{TOP / 'include'}"
 HEADER = (TOP / "include" / "vekszalir.h").read_text()
 WARNINGS = ["-Wall", "-Wextra", "-Wpedantic", "-Werror"]
@@ -49,6 +55,12 @@ int main(void)
     return 0;
 }}
 """
+COLUMNS = "heap,cell,below,at,above,sum,lost,size"
+DUMPED = [  # what examples/dump.c sends: a sound heap, and one with a count too low and a reference to a free cell
+    *("1,0,0,1,0,0,0,0", "1,1,0,1,0,0,0,0", "1,2,0,1,0,0,0,0", "1,3,0,1,0,0,0,0", "1,,0,4,0,0,0,0"),
+    *("2,0,0,1,0,0,0,0", "2,1,1,0,0,-1,0,0", "2,2,0,1,0,0,0,0", "2,3,1,0,0,-1,0,0", "2,,2,2,0,-2,0,0"),
+    ",,2,6,0,-2,0,0",
+]
 GOOD = "pub fn seven() -> usize { 7 }\n"
 EXPORTS = '#[no_mangle] pub extern "C" fn eight() -> usize { 8 }\n'
 BROKEN = "ghost use mathlib.Core.Path.{_≡_};\npub fn eight() -> usize ensures { λ r. ⌜ r ≡ 8 ⌝ } { 7 }\n"
@@ -172,6 +184,52 @@ def slow_lines(folder):
     yield "make slow-line", made.stderr.decode(), made.returncode == 0 and made.stdout == answers(BASKET.read_bytes())
 
 
+def report(*lines):
+    return "".join(f"{line}\r\n" for line in (COLUMNS, *lines)).encode()
+
+
+def audited(data):
+    return subprocess.run([AUDITOR], input=data, capture_output=True, check=True)
+
+
+def dumps(folder):
+    for language, compiler in (("C", C), ("C++", CXX)):
+        program = folder / "dump"
+        built = build(program, compiler, DUMP, "-fsanitize=address,undefined", INCLUDE, ARCHIVE)
+        yield f"dump in {language}", built.stderr, built.returncode == 0
+        if built.returncode == 0:
+            sent = subprocess.run([program], capture_output=True, check=True)
+            told = audited(sent.stdout).stdout
+            yield f"dump in {language}, audited", told.decode(), told == report(*DUMPED) and not sent.stderr
+    made = make("dump", text=False)
+    yield "make dump", made.stderr.decode(), made.returncode == 0 and audited(made.stdout).stdout == report(*DUMPED)
+
+
+def cut_short(folder, source, most):
+    """What the audit writes where its output takes so many bytes, and what it says."""
+    target = folder / "report.csv"
+    with open(target, "wb") as file:
+        limit = lambda: resource.setrlimit(resource.RLIMIT_FSIZE, (most, most))
+        _, said = failing.run([AUDITOR], source, file, restore_signals=False, preexec_fn=limit)
+    return target.read_bytes(), said
+
+
+def audit_failures(folder):
+    """A failed read ends the run after the lines of the heaps before it, a failed write where it fails: no totals follow."""
+    data = BOXES.read_bytes()
+    whole = audited(data).stdout
+    lines = whole[: whole.rindex(b",,")]
+    with failing.reset_after(data) as source:
+        outcome = failing.reading([AUDITOR], source)
+    well = outcome.output == lines and outcome.errors.startswith(b"read: ")
+    yield "audit, input fails", str(outcome) if not well else "told", well
+    for most in (0, 20, 40, 60, len(lines), len(whole) - 1):
+        with failing.file_of(data) as source:
+            written, said = cut_short(folder, source, most)
+        well = written == whole[:most] and said.startswith(b"write: ")
+        yield f"audit, output takes {most} bytes", "told" if well else f"{written!r} {said!r}", well
+
+
 def installed(folder):
     prefix = folder / "prefix"
     made = make("install", f"PREFIX={prefix}")
@@ -217,17 +275,18 @@ def outcomes(crates, said):
     return {line[2]: line[3] for line in lines}
 
 
-def program(_):
+def programs(_):
     """Where crates.txt counts as changed, rt is asked for each crate anew, and finds it proved."""
-    place = TOP / "crates" / "counter"
-    make("run", stdin=subprocess.DEVNULL)
-    for name, words, crates in (("make run", ["-W", "crates.txt"], needed("counter")), ("make run again", [], [])):
-        with open(place / "stdin", "rb") as lines:
-            done = make("run", *words, stdin=lines, text=False)
-        said = done.stderr.decode()
-        told = outcomes(crates, said)
-        well = told is not None and set(told.values()) <= {"proved before"}
-        yield name, said or "silent", well and done.returncode == 0 and done.stdout == (place / "stdout").read_bytes()
+    for target, crate in (("run", "counter"), ("audit", "auditor")):
+        place = TOP / "crates" / crate
+        make(target, stdin=subprocess.DEVNULL)
+        for name, words, crates in ((f"make {target}", ["-W", "crates.txt"], needed(crate)), (f"make {target} again", [], [])):
+            with open(place / "stdin", "rb") as lines:
+                done = make(target, *words, stdin=lines, text=False)
+            said = done.stderr.decode()
+            told = outcomes(crates, said)
+            well = told is not None and set(told.values()) <= {"proved before"}
+            yield name, said or "silent", well and done.returncode == 0 and done.stdout == (place / "stdout").read_bytes()
 
 
 def repository(folder, crate, text):
@@ -262,9 +321,9 @@ def small(folder):
 
 
 def main():
-    subprocess.run(["make", *(path.relative_to(TOP) for path in (ARCHIVE, PROGRAM))], cwd=TOP, check=True)
+    subprocess.run(["make", *(path.relative_to(TOP) for path in (ARCHIVE, PROGRAM, AUDITOR))], cwd=TOP, check=True)
     passed = failed = 0
-    for tests in (c_tests, header, stateless, examples, slow_lines, installed, targets, program, small):
+    for tests in (c_tests, header, stateless, examples, slow_lines, dumps, audit_failures, installed, targets, programs, small):
         with tempfile.TemporaryDirectory() as folder:
             for name, said, well in tests(pathlib.Path(folder)):
                 passed, failed = passed + well, failed + (not well)

@@ -1,8 +1,8 @@
 #!/usr/bin/env python3
-"""Compares the heap, its reading of lines and the program under test with an independent implementation of document 01 and of
-Q-1 to Q-3 and Q-10 in document 02, and shows by wrong edits of the independent one that each of them is seen: by the comparison; by the
-independent heap itself, which stops where it meets a count at zero; or, where calls refuse the tables that would show it, by a suite that
-runs the independent heap alone.
+"""Compares the heap, its reading of lines, its audit and the two programs under test with an independent implementation of document 01
+and of Q-1 to Q-4 and Q-10 in document 02, and shows by wrong edits of the independent one that each of them is seen: by the comparison; by
+the independent heap itself, which stops where it meets a count at zero; or, where calls refuse the tables that would show it, by a suite
+that runs the independent heap alone.
 
 The last line printed is 'N passed, M failed'.
 """
@@ -16,8 +16,10 @@ TOP = pathlib.Path(__file__).resolve().parent.parent
 HERE = TOP / "tests" / "independent"
 ARCHIVE = TOP / "target" / "staticlib" / "libheap_c.a"
 PROGRAM = TOP / "target" / "bin" / "counter"
+AUDITOR = TOP / "target" / "bin" / "auditor"
 sys.path.insert(0, str(HERE))
 sys.dont_write_bytecode = True  # nothing is left in the source folders
+import auditors  # noqa: E402
 import edits  # noqa: E402
 import failing  # noqa: E402
 import feeding  # noqa: E402
@@ -31,15 +33,23 @@ SECONDS = 60  # for one comparison; an edit that makes it hang is not caught
 GCC = ["gcc", "-std=c11", "-O1", "-I", HERE]
 STRICT = ["-Wall", "-Wextra", "-Werror", "-g", "-fsanitize=address,undefined"]
 LENIENT = ["-w"]  # a wrong edit may leave something unused
-SHARED = ["heap", "cell", "sound", "refusal", "count", "collect", "lines"]  # by the driver and the program
+# The sources of the independent programs. The driver has all others, and those of the programs that it shares with them.
+PROGRAM_PARTS = ["program.c", "input.c", "heap.c", "cell.c", "fit.c", "sound.c", "refusal.c", "count.c", "collect.c", "lines.c", "split.c"]
+AUDITOR_PARTS = ["auditor.c", "input.c", "audit.c", "possible.c", "fit.c", "split.c", "tables.c"]
+NOT_DRIVERS = {"program.c", "auditor.c", "input.c"}
+AUDITS = "audits"  # the word by which the driver compares audits alone
 
 
-def shared_sources():
-    return [HERE / f"{name}.c" for name in SHARED]
+def all_sources():
+    return sorted(HERE.glob("*.c"))
 
 
-def driver_sources():
-    return sorted(set(HERE.glob("*.c")) - {HERE / "program.c"} - set(shared_sources()))
+def driver_parts():
+    return [source.name for source in all_sources() if source.name not in NOT_DRIVERS]
+
+
+def sources(parts):
+    return [HERE / name for name in parts]
 
 
 def build(target, sources, flags, libraries=()):
@@ -55,17 +65,17 @@ def build_objects(folder, sources):
     return objects
 
 
-def run_driver(compare, seed):
+def run_driver(compare, seed, *words):
     """The exit status, or None for a comparison that hangs, and what it prints."""
     try:
-        run = subprocess.run([compare, str(seed)], capture_output=True, text=True, timeout=SECONDS)
+        run = subprocess.run([compare, str(seed), *words], capture_output=True, text=True, timeout=SECONDS)
         return run.returncode, run.stdout + run.stderr
     except subprocess.TimeoutExpired:
         return None, "the comparison hangs\n"
 
 
 def compare_heaps(folder):
-    compare = build(folder / "compare", [*driver_sources(), *shared_sources()], STRICT, [ARCHIVE])
+    compare = build(folder / "compare", sources(driver_parts()), STRICT, [ARCHIVE])
     for seed in SEEDS:
         status, report = run_driver(compare, seed)
         print(report, end="")
@@ -160,17 +170,16 @@ def edited_object(path, folder):
 
 
 def build_compare(objects, target):
-    return build(target, [o for source, o in objects.items() if source != "program.c"], [], [ARCHIVE])
+    return build(target, [objects[name] for name in driver_parts()], [], [ARCHIVE])
 
 
-def build_program(objects, target):
-    driver = {source.name for source in driver_sources()}
-    return [build(target, [o for source, o in objects.items() if source not in driver], [])]
+def build_program(objects, target, parts=PROGRAM_PARTS):
+    return [build(target, [objects[name] for name in parts], [])]
 
 
-def heap_edit_caught(objects, target):
+def driver_edit_caught(objects, target, *words):
     """Caught by a difference that is reported, or by the stop that is where a count is met at zero; not by a crash or a hang."""
-    status, report = run_driver(build_compare(objects, target), SEEDS[0])
+    status, report = run_driver(build_compare(objects, target), SEEDS[0], *words)
     return status == 1 and report.startswith(("difference:", "stop:"))
 
 
@@ -180,26 +189,37 @@ def program_edit_caught(objects, target, cases):
     return difference is not None and difference[1].status == 0
 
 
-def edit_caught(path, folder, objects, cases):
-    """By the program's output, the driver or, where the lines are read otherwise, by each of them."""
+def auditor_edit_caught(objects, target, cases):
+    difference = auditors.first_difference(build_program(objects, target, AUDITOR_PARTS), cases)
+    return difference is not None and difference[1].status == 0
+
+
+def edit_caught(path, folder, objects, cases, audit_cases):
+    """By a program's output, the driver or, where the lines are read otherwise, by each of those that read them."""
     name, edited = edited_object(path, folder)
-    with_edit = {**objects, name: edited}
-    if name in ("program.c", "lines.c") and not program_edit_caught(with_edit, folder / path.stem, cases):
+    with_edit, target = {**objects, name: edited}, folder / path.stem
+    if name in ("program.c", "lines.c", "split.c") and not program_edit_caught(with_edit, target, cases):
         return False
-    return name == "program.c" or heap_edit_caught(with_edit, folder / path.stem)
+    if name in ("auditor.c", "split.c") and not auditor_edit_caught(with_edit, target, audit_cases):
+        return False
+    words = [AUDITS] if name in ("audit.c", "possible.c") else []
+    return name in ("program.c", "auditor.c") or driver_edit_caught(with_edit, target, *words)
 
 
-def try_edit(path, folder, objects, cases):
+def try_edit(path, *with_what):
     try:
-        return f"edit {path.stem}", edit_caught(path, folder, objects, cases)
+        return f"edit {path.stem}", edit_caught(path, *with_what)
     except (ValueError, subprocess.SubprocessError) as trouble:
         return f"edit {path.stem}: {trouble}", False
 
 
-def without_edit(folder, objects, cases):
+def without_edit(folder, objects, cases, audit_cases):
     """What an edit is put into shows no difference of its own."""
-    yield "no edit, heap", run_driver(build_compare(objects, folder / "compare"), SEEDS[0])[0] == 0
+    compare = build_compare(objects, folder / "compare")
+    yield "no edit, heap", run_driver(compare, SEEDS[0])[0] == 0
+    yield "no edit, audits alone", run_driver(compare, SEEDS[0], AUDITS)[0] == 0
     yield no_difference("no edit, program", build_program(objects, folder / "program"), cases)
+    yield auditors.no_difference("no edit, auditor", build_program(objects, folder / "auditor", AUDITOR_PARTS), audit_cases)
 
 
 def program_stops(folder, objects):
@@ -210,27 +230,30 @@ def program_stops(folder, objects):
     return "independent program, count met at zero", stopped
 
 
-def catch_edits(folder, cases):
-    objects = build_objects(folder, [*driver_sources(), *shared_sources(), HERE / "program.c"])
-    yield from without_edit(folder, objects, cases)
+def catch_edits(folder, cases, audit_cases):
+    objects = build_objects(folder, all_sources())
+    yield from without_edit(folder, objects, cases, audit_cases)
     yield program_stops(folder, objects)
     paths = sorted((HERE / "edits").glob("*.edit"))
     with concurrent.futures.ThreadPoolExecutor(2) as pool:
-        yield from pool.map(lambda path: try_edit(path, folder, objects, cases), paths)
+        yield from pool.map(lambda path: try_edit(path, folder, objects, cases, audit_cases), paths)
 
 
 def checks(folder):
     yield from compare_heaps(folder)
-    reference = [build(folder / "program", [HERE / "program.c", *shared_sources()], STRICT)]
+    reference = [build(folder / "program", sources(PROGRAM_PARTS), STRICT)]
     cases = whole_cases(reference)
     yield from compare_programs(reference, [PROGRAM], cases)
+    audit_reference = [build(folder / "auditor", sources(AUDITOR_PARTS), STRICT)]
+    audit_cases = auditors.whole_cases()
+    yield from auditors.compare(audit_reference, [AUDITOR], audit_cases)
     edited = folder / "edits"
     edited.mkdir()
-    yield from catch_edits(edited, cases)
+    yield from catch_edits(edited, cases, audit_cases)
 
 
 def main():
-    subprocess.run(["make", *(path.relative_to(TOP) for path in (ARCHIVE, PROGRAM))], cwd=TOP, check=True)
+    subprocess.run(["make", *(path.relative_to(TOP) for path in (ARCHIVE, PROGRAM, AUDITOR))], cwd=TOP, check=True)
     passed = failed = 0
     with tempfile.TemporaryDirectory() as folder:
         for name, good in checks(pathlib.Path(folder)):

@@ -27,7 +27,7 @@ PLACES = [
     r"tests/independent/edits/[a-z0-9_]+\.edit",
     r"bench/[a-z]+\.(c|h|py)",
     r"include/vekszalir\.(h|pc\.in)",
-    r"examples/(host\.(c|txt)|slow_line\.c|basket\.csv)",
+    r"examples/(host\.(c|txt)|slow_line\.c|dump\.c|(basket|boxes)\.csv)",
 ]
 
 # What a crate may hold.

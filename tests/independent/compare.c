@@ -1,5 +1,7 @@
 /* Compares the heap under test with the independent one, call by call and entry by entry:  compare SEED
+   With a second word, whatever it is, only the audits of Q-4 are compared.
    Ends with status 1 at the first difference, where a count is met at zero, or if something that should be met wasn't. */
+#include "audit_coverage.h"
 #include "coverage.h"
 #include "pair.h"
 #include "random.h"
@@ -8,11 +10,8 @@
 #include <stdio.h>
 #include <stdlib.h>
 
-int main(int argc, char **argv)
+static bool compare_calls(void)
 {
-    unsigned long long seed = argc > 1 ? strtoull(argv[1], NULL, 10) : 1;
-    random_seed(seed);
-    pair_seed(seed);
     book();
     numbers();
     damage();
@@ -28,5 +27,25 @@ int main(int argc, char **argv)
     readers();
     baskets();
     again();
-    return coverage_report() ? 0 : 1;
+    return coverage_report();
+}
+
+static bool compare_audits(void)
+{
+    audit_examples();
+    audit_lengths();
+    audit_reports();
+    audit_lists();
+    audit_reached();
+    audit_small();
+    return audit_coverage_report();
+}
+
+int main(int argc, char **argv)
+{
+    unsigned long long seed = argc > 1 ? strtoull(argv[1], NULL, 10) : 1;
+    random_seed(seed);
+    pair_seed(seed);
+    bool calls = argc > 2 || compare_calls(), audits = compare_audits();
+    return calls && audits ? 0 : 1;
 }

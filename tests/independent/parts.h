@@ -21,6 +21,9 @@ struct run {
     size_t joined, served;
 };
 
+/* fit.c: whether the lengths are those of a heap. */
+bool lengths_fit(const struct heap *heap);
+
 /* sound.c: the six rules of "A sound heap". */
 bool sound(const struct heap *heap);
 

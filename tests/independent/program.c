@@ -1,5 +1,6 @@
 /* "The program" of document 01 over the independent heap. It reads standard input whole before it answers: how the input
    comes in pieces can't matter then. */
+#include "input.h"
 #include "lines.h"
 
 #include <stdio.h>
@@ -11,18 +12,6 @@ void met_at_zero(size_t cell)
 {
     fprintf(stderr, "stop: the count of cell %zu is met at zero\n", cell);
     exit(1);
-}
-
-static struct text read_all(FILE *file)
-{
-    size_t room = 1 << 16, len = 0;
-    char *at = malloc(room);
-    while (!feof(file) && !ferror(file)) {
-        if (len == room)
-            at = realloc(at, room *= 2);
-        len += fread(at + len, 1, room - len, file);
-    }
-    return (struct text){ at, len };
 }
 
 static void answer_all(struct heap *heap, struct text rest)

@@ -13,20 +13,9 @@ static const enum argument shape[OPS][3] = {
     [START] = { ROOT },
 };
 
-/* "N is not 1 to 1,024, or the tables' lengths don't fit N" */
 static bool is_size(const struct request *request)
 {
-    const struct heap *heap = request->heap;
-    size_t n = heap->kind.len;
-    bool fit = 1 <= n
-        && n <= CELLS_MAX
-        && heap->flags.len == n
-        && heap->count.len == n
-        && heap->slots.len == SLOTS * n
-        && heap->roots.len == ROOTS
-        && heap->queue.len == n
-        && heap->control.len == CONTROL;
-    return !fit;
+    return !lengths_fit(request->heap);
 }
 
 /* "FRESH gives only SIZE" */

@@ -18,4 +18,11 @@ void readers(void); /* readers with any numbers in them */
 void freeing(void); /* the freeing step of the independent heap alone, on any tables */
 void stops(void);   /* counts met at zero by the independent heap alone, in tables that calls refuse */
 
+void audit_examples(void); /* heaps whose differences are known */
+void audit_lengths(void);  /* tables and differences whose lengths don't fit */
+void audit_reports(void);  /* reports with any numbers in them */
+void audit_lists(void);    /* lists of heaps of all sorts, up to a thousand and beyond */
+void audit_reached(void);  /* a list for each report within the bounds, and none beyond them */
+void audit_small(void);    /* the bounds of the independent audit alone, with limits so small that all heaps can be made */
+
 #endif

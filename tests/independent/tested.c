@@ -44,3 +44,21 @@ vek_progress tested_end(struct heap *heap, vek_reader reader, const struct bytes
 {
     return vek_end(LENT, reader, bytes_lent(out), out->len);
 }
+
+static vek_row row_to(struct row row)
+{
+    return (vek_row){ row.below, row.at, row.above, row.sum, row.lost, row.size };
+}
+
+static struct row row_from(vek_row row)
+{
+    return (struct row){ row.below, row.at, row.above, row.sum, row.lost, row.size };
+}
+
+struct audited tested_audit(struct heap *heap, int32_t *differences, size_t len, struct report report)
+{
+    vek_report before = { report.heaps, row_to(report.totals) };
+    vek_audited audited = vek_audit(LENT, differences, len, before);
+    struct report after = { audited.report.heaps, row_from(audited.report.totals) };
+    return (struct audited){ audited.refused, row_from(audited.heap), after };
+}

@@ -3,7 +3,6 @@
 //
 // A read that fails ends the run: the lines before it are answered by then, and the unfinished one is not. A write that fails ends it as well.
 // Either is reported on standard error; the language has no exit status for a program to set.
-ghost use mathlib.Core.Path.{_≡_};
 ghost use Prim.Native.Nat.{_≤_};
 ghost use lib.ListN.{length};
 ghost use Rattle.rules.specs.Heap.{tables};
@@ -13,27 +12,13 @@ use csv::reader::start;
 use session::end;
 use session::header;
 use session::take;
+use streams::read_buffer;
+use streams::write;
 
 // After a read: the reader to go on with, or the run is over.
 enum Served {
     More(Reader),
     Over,
-}
-
-// For one read. Each of its bytes ends at most one line, so the answers, at most 31 bytes each, fit the 65,536 bytes of `out`.
-fn read_buffer() -> [u8; 2048]
-    ensures { λ r. ⌜ 2048 ≡ length r ⌝ }
-{
-    [0; 2048]
-}
-
-// Writes all of it to standard output, or reports that it could not.
-fn write(text: &[u8]) -> bool {
-    if io::write_all(libc::STDOUT_FILENO, text) {
-        return true;
-    }
-    os::fail(b"write");
-    false
 }
 
 // Writes the answers to the lines that end in these bytes, in one go.
@@ -103,7 +88,7 @@ fn close(
     write(&out[..written]);
 }
 
-// Reads once, and answers.
+// Reads once, and answers. Each byte of a read ends at most one line, so the answers, at most 31 bytes each, fit the 65,536 bytes of `out`.
 fn serve(
     kind: &mut [u16],
     flags: &mut [u16],

@@ -1,6 +1,7 @@
 -- The decimal digits of a number: one more for each power of ten. Assumes nothing.
-use Prim.Native.Nat.{ℕ, zero, suc, _+_, _*_, _/_, _%_, _≤_, _<_}
+use Prim.Native.Nat.{ℕ, zero, suc, _+_, _*_, _/_, _%_, _^_, _≤_, _<_}
 use native.Mathlib.Omega.{arith}
+use native.Mathlib.Nat.{pow-suc}
 use mathlib.Core.Path.{_≡_, refl, sym, _∙_}
 use mathlib.Core.List.{[], _∷_, _++_}
 use mathlib.Core.Bool.{Bool, true, false}
@@ -53,7 +54,12 @@ one-longer n k m ih p h = go (ltb n 10) refl
     go true e = omega (arith, length-small n (ltb-true n 10 e))
     go false e = omega (arith, length-large n (ltb-false n 10 e), ih (omega arith))
 
+-- a number below 10 to the k + 1 has at most k + 1 digits
+pub decimal-digits : (k n : ℕ) → n < 10 ^ suc k → length (decimalOf n) ≤ suc k
+decimal-digits zero n h = omega (arith, length-small n h)
+decimal-digits (suc k) n h =
+    let m : n < 10 ^ suc k * 10 = rw (pow-suc 10 (suc k)) at h in
+    omega (arith, one-longer n (suc k) (10 ^ suc k) (decimal-digits k (n / 10)) (omega arith) m)
+
 pub decimal-length : (n : ℕ) → n < 65536 → length (decimalOf n) ≤ 5
-decimal-length n h =
-    one-longer n 4 10000 (λ a. one-longer (n / 10) 3 1000 (λ b. one-longer (n / 10 / 10) 2 100 (λ c. one-longer (n / 10 / 10 / 10) 1 10
-    (λ d. rw (decimal-small (n / 10 / 10 / 10 / 10) d) (omega arith)) (omega arith) (omega arith)) (omega arith) (omega arith)) (omega arith) (omega arith)) (omega arith) (omega arith)
+decimal-length n h = decimal-digits 4 n (omega arith)

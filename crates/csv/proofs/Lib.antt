@@ -8,5 +8,6 @@ pub mod Whole
 pub mod Cases
 pub mod Long
 pub mod Written
+pub mod Digits
 pub mod Decimal
 pub mod Spelled

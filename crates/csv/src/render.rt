@@ -1,30 +1,10 @@
 // Output lines, put into a buffer one after another.
-ghost use Prim.Native.Nat.{_+_, _≤_, _<_};
-ghost use mathlib.Core.List.{[], _∷_};
+ghost use Prim.Native.Nat.{_+_, _≤_};
 ghost use lib.ListN.{length};
-ghost use Rattle.csv.specs.Decimal.{decimalOf, fieldText, lastText, rendered};
+ghost use Rattle.csv.specs.Decimal.{fieldText, lastText, rendered};
 ghost use Rattle.csv.specs.Written.{Wrote};
-
-fn put_byte(out: &mut [u8], at: usize, byte: u8) -> usize
-    requires { ⌜ at < length (now out) ⌝ }
-    ensures { λ r. ⌜ Wrote (now (out .entry)) at (byte ∷ []) (now (out .exit)) r ⌝ }
-{
-    out[at] = byte;
-    at + 1
-}
-
-// A number with no leading zeros.
-fn put_number(out: &mut [u8], at: usize, n: u16) -> usize
-    requires { ⌜ at + length (decimalOf n) ≤ length (now out) ⌝ }
-    ensures { λ r. ⌜ Wrote (now (out .entry)) at (decimalOf n) (now (out .exit)) r ⌝ }
-{
-    if n < 10 {
-        put_byte(out, at, 48 + n as u8)
-    } else {
-        let last = put_number(out, at, n / 10);
-        put_byte(out, last, 48 + (n % 10) as u8)
-    }
-}
+use crate::number::put_byte;
+use crate::number::put_number;
 
 // A number and a comma.
 fn put_field(out: &mut [u8], at: usize, n: u16) -> usize
@@ -32,7 +12,7 @@ fn put_field(out: &mut [u8], at: usize, n: u16) -> usize
     ensures { λ r. ⌜ Wrote (now (out .entry)) at (fieldText n) (now (out .exit)) r ⌝ }
     ensures { λ r. ⌜ r ≤ at + 6 ⌝ }
 {
-    let last = put_number(out, at, n);
+    let last = put_number(out, at, n as u64);
     put_byte(out, last, 44)
 }
 
@@ -42,7 +22,7 @@ fn put_last(out: &mut [u8], at: usize, n: u16) -> usize
     ensures { λ r. ⌜ Wrote (now (out .entry)) at (lastText n) (now (out .exit)) r ⌝ }
     ensures { λ r. ⌜ r ≤ at + 7 ⌝ }
 {
-    let last = put_number(out, at, n);
+    let last = put_number(out, at, n as u64);
     let half = put_byte(out, last, 13);
     put_byte(out, half, 10)
 }

@@ -4,6 +4,7 @@ ghost use Rattle.rules.specs.Heap.{tables};
 ghost use Rattle.rules.specs.Calls.{Did};
 ghost use Rattle.rules.specs.Refusals.Call.{FRESH, NEW, CLEAR, COPY, LOAD, STORE, COLLECT, START, FINISH};
 
+mod audits;
 mod lines;
 
 use allocation::fresh;

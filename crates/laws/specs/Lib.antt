@@ -6,5 +6,6 @@ pub mod Marking
 pub mod Reach
 pub mod Collect
 pub mod Counts
+pub mod Audit
 pub mod Calls
 pub mod Demand

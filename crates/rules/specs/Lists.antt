@@ -3,7 +3,7 @@
 use Prim.Native.Nat.{ℕ, zero, suc, _+_}
 use mathlib.Core.List.{List, [], _∷_, _++_}
 use mathlib.Core.Bool.{Bool, true, _&&_, cond}
-use lib.Dec.{eqb}
+use lib.Dec.{leb, eqb}
 
 -- do all these tests pass
 unfoldable pub every : List Bool → Bool
@@ -24,6 +24,11 @@ below (suc n) p = p n && below n p
 unfoldable pub occ : ℕ → List ℕ → ℕ
 occ x [] = 0
 occ x (y ∷ l) = cond (eqb x y) 1 0 + occ x l
+
+-- how many references name none of n cells
+unfoldable pub dangling : ℕ → List ℕ → ℕ
+dangling n [] = 0
+dangling n (x ∷ l) = cond (leb x n) 0 1 + dangling n l
 
 -- all the numbers together
 unfoldable pub sum : List ℕ → ℕ

@@ -36,26 +36,44 @@ Entry h x = (c : ℕ) × (x ≡ suc c) × (kindOf h c ≡ 1) × (flagsOf h c ≡
 unfoldable pub bump : Heap → ℕ → ℕ
 bump h c = cond (eqb (occ (suc c) (entries h)) 0) 0 1
 
+-- "1. Kinds are 0 to 3. A free cell has flags, count and all eight slots 0."
+abbrev pub Rule1 : Heap → Type 0
+Rule1 h = (c : ℕ) → c < cells h → (kindOf h c ≤ 3) × (kindOf h c ≡ 0 → (flagsOf h c ≡ 0) × (countOf h c ≡ 0) × EmptySlots h c)
+
+-- "2. Strings and buffers have flags 0 and empty slots. Objects have flags 0, 1 or 3."
+abbrev pub Rule2 : Heap → Type 0
+Rule2 h = (c : ℕ) → c < cells h
+    → ((kindOf h c ≡ 2) ⊎ (kindOf h c ≡ 3) → (flagsOf h c ≡ 0) × EmptySlots h c)
+    × (kindOf h c ≡ 1 → (flagsOf h c ≡ 0) ⊎ ((flagsOf h c ≡ 1) ⊎ (flagsOf h c ≡ 3)))
+
+-- "3. Each reference in roots, slots and queue is empty or names a used cell."
+abbrev pub Rule3 : Heap → Type 0
+Rule3 h = ((i : ℕ) → i < 64 → Reference h (rootAt h i))
+    × ((c j : ℕ) → c < cells h → j < 8 → Reference h (slotOf h c j))
+    × ((i : ℕ) → i < cells h → Reference h (queueAt h i))
+
+-- "4. The queue length is at most N; entries below it are distinct objects with flags 1; entries from it on are 0."
+abbrev pub Rule4 : Heap → Type 0
+Rule4 h = (queued h ≤ cells h)
+    × ((i j : ℕ) → i < j → j < queued h → queueAt h i ≢ queueAt h j)
+    × ((i : ℕ) → i < queued h → Entry h (queueAt h i))
+    × ((i : ℕ) → queued h ≤ i → i < cells h → queueAt h i ≡ 0)
+
+-- "5. The running root is 0, or 1 to 64 with a queue that isn't empty."
+abbrev pub Rule5 : Heap → Type 0
+Rule5 h = (running h ≡ 0) ⊎ ((1 ≤ running h) × (running h ≤ 64) × (1 ≤ queued h))
+
+-- "6. Every used cell's count equals the root entries that hold it, plus the slots that hold it, plus 1 if it is queued; and it is at least 1."
+abbrev pub Rule6 : Heap → Type 0
+Rule6 h = (c : ℕ) → Used h c → (countOf h c ≡ occ (suc c) (h .roots) + occ (suc c) (h .slots) + bump h c) × (1 ≤ countOf h c)
+
 pub record Sound (h : Heap) : Type 0 where
-  -- "1. Kinds are 0 to 3. A free cell has flags, count and all eight slots 0."
-  pub rule1 : (c : ℕ) → c < cells h → (kindOf h c ≤ 3) × (kindOf h c ≡ 0 → (flagsOf h c ≡ 0) × (countOf h c ≡ 0) × EmptySlots h c)
-  -- "2. Strings and buffers have flags 0 and empty slots. Objects have flags 0, 1 or 3."
-  pub rule2 : (c : ℕ) → c < cells h
-      → ((kindOf h c ≡ 2) ⊎ (kindOf h c ≡ 3) → (flagsOf h c ≡ 0) × EmptySlots h c)
-      × (kindOf h c ≡ 1 → (flagsOf h c ≡ 0) ⊎ ((flagsOf h c ≡ 1) ⊎ (flagsOf h c ≡ 3)))
-  -- "3. Each reference in roots, slots and queue is empty or names a used cell."
-  pub rule3 : ((i : ℕ) → i < 64 → Reference h (rootAt h i))
-      × ((c j : ℕ) → c < cells h → j < 8 → Reference h (slotOf h c j))
-      × ((i : ℕ) → i < cells h → Reference h (queueAt h i))
-  -- "4. The queue length is at most N; entries below it are distinct objects with flags 1; entries from it on are 0."
-  pub rule4 : (queued h ≤ cells h)
-      × ((i j : ℕ) → i < j → j < queued h → queueAt h i ≢ queueAt h j)
-      × ((i : ℕ) → i < queued h → Entry h (queueAt h i))
-      × ((i : ℕ) → queued h ≤ i → i < cells h → queueAt h i ≡ 0)
-  -- "5. The running root is 0, or 1 to 64 with a queue that isn't empty."
-  pub rule5 : (running h ≡ 0) ⊎ ((1 ≤ running h) × (running h ≤ 64) × (1 ≤ queued h))
-  -- "6. Every used cell's count equals the root entries that hold it, plus the slots that hold it, plus 1 if it is queued; and it is at least 1."
-  pub rule6 : (c : ℕ) → Used h c → (countOf h c ≡ occ (suc c) (h .roots) + occ (suc c) (h .slots) + bump h c) × (1 ≤ countOf h c)
+  pub rule1 : Rule1 h
+  pub rule2 : Rule2 h
+  pub rule3 : Rule3 h
+  pub rule4 : Rule4 h
+  pub rule5 : Rule5 h
+  pub rule6 : Rule6 h
 
 -- a heap that every call but FRESH may go by: its tables fit, and it is sound
 pub record Ready (h : Heap) : Type 0 where

@@ -1,4 +1,5 @@
-// What every crate of the heap shares: the limits, the refusal numbers and the answer. The rules are in specs/.
+// What every crate of the heap shares: the limits, the refusal numbers and the answers. The rules are in specs/.
+pub mod audit;
 
 // The most cells of a heap, its roots, and the slots of a cell.
 pub const CELLS_MAX: usize = 1024;
@@ -29,6 +30,11 @@ pub const BUSY: u16 = 8;
 pub const NONE: u16 = 9;
 
 pub const IDLE: u16 = 10;
+
+// Those of document 02 that are given by entries of their own.
+pub const TOTAL: u16 = 12;
+
+pub const MANY: u16 = 14;
 
 // What a call answers: DONE or why it was refused, how many cells it freed and queued, and the cell that NEW made.
 #[repr(C)]

@@ -1,6 +1,5 @@
 -- What several proofs of the crate cite.
 pub mod Misses
-pub mod Tallying
 pub mod Queueing
 pub mod Slots
 pub mod Cells

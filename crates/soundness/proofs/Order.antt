@@ -1,28 +1,18 @@
 -- tallyOk as the code finds it, test after test: t1, t2 and t3 are the tally after the queue, the roots and the slots.
 -- Assumes nothing.
-use Prim.Native.Nat.{ℕ, suc, _+_, _-_, _<_}
+use Prim.Native.Nat.{ℕ, suc, _+_, _<_}
 use native.Mathlib.Omega.{arith}
 use mathlib.Core.List.{List}
 use mathlib.Core.Bool.{Bool, true, false, _&&_, and-true}
 use mathlib.Core.Path.{_≡_, sym, ap, _∙_}
-use lib.ListN.{length, getD, take, drop}
-use lib.Seq.{getD-drop}
+use lib.ListN.{length, getD}
 use borrow.Author.Tests.{eqb-true}
-use Rattle.rules.specs.Lists.{all, below, distinct, occ}
+use Rattle.rules.specs.Lists.{all, below, distinct, occ, dangling}
 use Rattle.rules.specs.Lists as Lists
 use Rattle.laws.specs.Lists.Tests.{tests-agree, every-not, clash, and-join, and-left, and-right, below-all, below-at}
-use Rattle.laws.specs.Sound.Tally.{counters, Tallied, TallyRoom, dangling, room-after, less-room}
+use Rattle.laws.specs.Sound.Tally.{counters, Tallied, TallyRoom, room-after, less-room}
+use Rattle.tally.proofs.Scratch.{cellsOf, cell-entry}
 use Rattle.soundness.specs.Tests.{names, shapeOk, countMatches, shapeAt, slotsAt, countAt, tallyOk, Scratch}
-use Rattle.soundness.proofs.Scratch.{part-rest}
-
--- a tally without its entry 0
-abbrev cellsOf : List ℕ → List ℕ
-cellsOf tally = take (length tally - 1) (drop 1 tally)
-
-cell-entry : (tally : List ℕ) (c : ℕ) → getD (cellsOf tally) c 0 ≡ getD tally (suc c) 0
-cell-entry tally c =
-    let e : 1 + c ≡ suc c = omega arith in
-    ap (λ (l : List ℕ). getD l c 0) (part-rest tally 1) ∙ getD-drop 1 tally c 0 ∙ ap (λ (n : ℕ). getD tally n 0) e
 
 -- tests that agree on each number below n
 below-same : (n : ℕ) (p q : ℕ → Bool) → ((c : ℕ) → c < n → p c ≡ q c) → below n p ≡ below n q

@@ -11,12 +11,13 @@ use lib.Seq.{take-all}
 use lib.Dec.{eqb}
 use borrow.Author.Tests.{eq-eqb, ne-eqb, eqb-true}
 use borrow.Author.Count.{below-none, below-more}
-use Rattle.rules.specs.Lists.{all, below}
+use Rattle.rules.specs.Lists.{all, below, dangling}
 use Rattle.rules.specs.Heap.{slotsOf}
 use Rattle.laws.specs.Lists.Tests.{tests-agree, clash, below-all, below-at}
 use Rattle.laws.specs.Lists.Tables.{slots-length}
-use Rattle.laws.specs.Sound.Tally.{counters, Tallied, TallyRoom, dangling, dangling-length, tallied-none, tallied-zeros, tallied-part, room-after, less-room}
-use Rattle.soundness.specs.Tests.{slotsOk, slotsAt, Tallies, CellTallied}
+use Rattle.laws.specs.Sound.Tally.{counters, Tallied, TallyRoom, dangling-length, tallied-none, tallied-zeros, tallied-part, room-after, less-room}
+use Rattle.tally.specs.Tallies.{Tallies}
+use Rattle.soundness.specs.Tests.{slotsOk, slotsAt, CellTallied}
 
 -- slotsOk of an object, and of another cell
 pub of-object : (n k : ℕ) (s : List ℕ) → k ≡ 1 → slotsOk n k s ≡ eqb (dangling n s) 0

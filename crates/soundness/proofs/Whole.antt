@@ -11,7 +11,7 @@ use lib.Dec.{leb, eqb}
 use lib.ListN.{length, getD, drop, length-drop, List·getD-eq-default}
 use lib.Seq.{getD-drop}
 use borrow.Author.Tests.{eqb-true, eq-eqb, ne-eqb, leb-true, le-leb}
-use Rattle.rules.specs.Lists.{occ, all}
+use Rattle.rules.specs.Lists.{occ, all, dangling}
 use Rattle.rules.specs.Lists as Lists
 use Rattle.rules.specs.Heap.{Heap, cells, queued, running, kindOf, flagsOf, countOf, slotOf, slotsOf, entries}
 use Rattle.rules.specs.Sound.{Sized}
@@ -22,7 +22,7 @@ use Rattle.laws.specs.Lists.Occ.{occ-nil, occ-at, occ-find, occ-none, distinct-
 use Rattle.laws.specs.Sound.But.{SoundBut, referred-used}
 use Rattle.laws.specs.Sound.Reflect.{CellRules, cell-rules, cell-ok, flags-of, running-of, sound-of, of-sound}
 use Rattle.laws.specs.Sound.Facts.{ready-facts, facts-ready}
-use Rattle.laws.specs.Sound.Tally.{dangling, dangling-none, none-dangling}
+use Rattle.laws.specs.Sound.Tally.{dangling-none, none-dangling}
 use Rattle.soundness.specs.Tests.{shapeOk, slotsOk, countMatches, tallyOk}
 use Rattle.soundness.proofs.Queueing.{names-of, names-ok}
 use Rattle.soundness.proofs.Slots.{of-object, of-other}

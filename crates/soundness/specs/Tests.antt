@@ -6,10 +6,10 @@ use mathlib.Core.List.{List, [], _∷_}
 use mathlib.Core.Bool.{Bool, true, _&&_, cond}
 use lib.Dec.{leb, eqb}
 use lib.ListN.{length, getD}
-use Rattle.rules.specs.Lists.{every, all, below, distinct, occ}
+use Rattle.rules.specs.Lists.{every, all, below, distinct, occ, dangling}
 use Rattle.rules.specs.Heap.{slotsOf}
 use Rattle.rules.specs.Check.{cellOk}
-use Rattle.laws.specs.Sound.Tally.{counters, Tallied, TallyRoom, dangling}
+use Rattle.laws.specs.Sound.Tally.{counters, Tallied, TallyRoom}
 
 -- a reference that names one of n cells
 unfoldable pub names : ℕ → ℕ → Bool
@@ -45,10 +45,6 @@ tallyOk kind flags count slots roots entries =
     ∷ eqb (dangling (length kind) roots) 0
     ∷ below (length kind) (slotsAt (length kind) kind slots)
     ∷ below (length kind) (λ c. countMatches (getD kind c 0) (getD count c 0) (occ (suc c) entries + occ (suc c) roots + occ (suc c) slots)) ∷ [])
-
--- what tallying references comes to: `before` and `after` are the tally, `lost` and r how many references so far name no cell
-abbrev pub Tallies : List ℕ → List ℕ → List ℕ → ℕ → ℕ → Type 0
-Tallies before l after lost r = (r ≡ lost + dangling (counters before) l) × Tallied before l after
 
 -- what tallying the slots of one cell comes to: `before` and `after` are the tally, `wrong` and r the faults found so far
 pub record CellTallied (before after : List ℕ) (kind : ℕ) (slots : List ℕ) (wrong r : ℕ) : Type 0 where

@@ -1,12 +1,11 @@
 // Whether the seven lent tables fit N cells, and whether the heap in them is sound.
-// Queue, roots and slots are read once, and the references in them tallied, so that no test has to search: entry r of the tally has how often the reference r was met so far, which names cell r - 1. Entry 0 takes the empty references, so that they need no test of their own; what it has says nothing.
+// Queue, roots and slots are read once, and the references in them tallied, so that no test has to search.
 mod admission;
 
 pub use admission::admit;
 ghost use mathlib.Core.Path.{_≡_};
 ghost use mathlib.Core.Bool.{true, _&&_};
-ghost use mathlib.Core.List.{[], _∷_};
-ghost use Prim.Native.Nat.{ℕ, _+_, _*_, _%_, _<_, _≤_};
+ghost use Prim.Native.Nat.{ℕ, _+_, _*_, _<_, _≤_};
 ghost use lib.Dec.{eqb};
 ghost use lib.ListN.{length, getD};
 ghost use Rattle.rules.specs.Lists.{all, below, distinct};
@@ -14,71 +13,14 @@ ghost use Rattle.rules.specs.Heap.{tables};
 ghost use Rattle.rules.specs.Sound.{Sized};
 ghost use Rattle.rules.specs.Check.{runningOk, fits, sound};
 ghost use Rattle.laws.specs.Sound.Tally.{counters, Tallied, TallyRoom};
-ghost use Rattle.soundness.specs.Tests.{names, shapeOk, countMatches, Tallies, CellTallied, shapeAt, slotsAt, countAt, tallyOk, Scratch};
+ghost use Rattle.soundness.specs.Tests.{names, shapeOk, countMatches, CellTallied, shapeAt, slotsAt, countAt, tallyOk, Scratch};
 use rules::CELLS_MAX;
 use rules::ROOTS;
 use rules::SLOTS;
+use tally::TALLY_MAX;
+use tally::tally_all;
 
 const OBJECT: u16 = 1;
-
-// The most entries of a tally: one for each cell, and entry 0.
-const TALLY_MAX: usize = CELLS_MAX + 1;
-
-// Tallies one reference. One above N has no entry, names no cell and is lost: answers how many are, with the `lost` of before, which spares the loops around it a sum.
-fn tally_one(tally: &mut [u16], reference: u16, lost: usize) -> usize
-    requires { ⌜ TallyRoom (now tally) 1 × (lost + 1 < 65536) ⌝ }
-    ensures { λ r. ⌜ Tallies (now (tally .entry)) (reference ∷ []) (now (tally .exit)) lost r ⌝ }
-{
-    let r = reference as usize;
-    if tally.len() <= r {
-        return lost + 1;
-    }
-    tally[r] += 1;
-    lost
-}
-
-// Are four references empty? The first has a test of its own, which mostly tells a used four: the others are then loaded where they are tallied, and not before.
-fn four_empty(four: &[u16]) -> bool
-    requires { ⌜ length (now four) ≡ 4 ⌝ }
-    ensures { λ r. ⌜ r ≡ all (eqb 0) (now (four .entry)) ⌝ }
-{
-    if four[0] != 0 {
-        return false;
-    }
-    (four[1] | four[2] | four[3]) == 0
-}
-
-// Tallies four references, as `tally_one` does each; where all are empty, as most slots are, they are skipped.
-fn tally_four(tally: &mut [u16], four: &[u16], before: usize) -> usize
-    requires { ⌜ TallyRoom (now tally) 4 × (before + 4 < 65536) × (length (now four) ≡ 4) ⌝ }
-    ensures { λ r. ⌜ Tallies (now (tally .entry)) (now (four .entry)) (now (tally .exit)) before r ⌝ }
-{
-    if four_empty(four) {
-        return before;
-    }
-    let mut lost = before;
-    let mut i = 0;
-    while i < four.len() {
-        lost = tally_one(tally, four[i], lost);
-        i += 1;
-    }
-    lost
-}
-
-// Tallies the references of a table, four at a time; answers how many are lost, with the `before` of other tables.
-fn tally_all(tally: &mut [u16], references: &[u16], before: usize) -> usize
-    requires { ⌜ TallyRoom (now tally) (length (now references)) × (before + length (now references) < 65536) × (length (now references) % 4 ≡ 0) ⌝ }
-    ensures { λ r. ⌜ Tallies (now (tally .entry)) (now (references .entry)) (now (tally .exit)) before r ⌝ }
-{
-    let mut lost = before;
-    let mut i = 0;
-    while i < references.len() {
-        let end = i + 4;
-        lost = tally_four(tally, &references[i..end], lost);
-        i = end;
-    }
-    lost
-}
 
 // Tallies the queue's entries in use, into a tally of zeros: does each name a cell, and none twice?
 fn tally_queue(tally: &mut [u16], entries: &[u16]) -> bool

@@ -77,7 +77,7 @@ module _ (h : Heap) (r : Ready h) where
           unreferred h (h .roots) (λ i m. r .sound .rule3 .0 i (omega (arith, r .sized .roots))) c z,
           unreferred h (h .slots) (slot-reference h (r .sized) (r .sound)) c z,
         )
-    | no n ↦ omega (arith, r .sound .rule6 c (omega arith) .0, bump-is h c (entries-once h (r .sized) (r .sound) (suc c)), occ-nil (suc c))
+    | no n ↦ omega (arith, r .sound .rule6 c (omega arith) .0, bump-is h c (entries-once h (r .sized) (r .sound .rule4) (suc c)), occ-nil (suc c))
   ]
 
 pub ready-facts : {h : Heap} → Ready h → SoundBut h []
@@ -105,7 +105,7 @@ ready-facts {h} r =
       freeCount = free-count h r;
       queue = record {
         within = r .sound .rule4 .0;
-        once = entries-once h (r .sized) (r .sound);
+        once = entries-once h (r .sized) (r .sound .rule4);
         noneEmpty = occ-none 0 (entries h) (λ i m e. omega (arith, entry-at h r i m .1));
         object = λ c o. entry-cell h r c o .0;
         wanting = λ c o. entry-cell h r c o .1;

@@ -13,7 +13,7 @@ use lib.Seq.{getD-take, getD-drop, length-take-le}
 use borrow.Author.Tests.{eqb-true, eqb-false, eq-eqb, ne-eqb, leb-true, le-leb, ltb-true, lt-ltb, not-true}
 use Rattle.rules.specs.Lists.{occ, all}
 use Rattle.rules.specs.Heap.{Heap, cells, queued, kindOf, flagsOf, countOf, queueAt, slotsOf, entries, Used}
-use Rattle.rules.specs.Sound.{Sized, EmptySlots, Reference, Entry, bump, Sound}
+use Rattle.rules.specs.Sound.{Sized, EmptySlots, Reference, Entry, bump, Sound, Rule4}
 use Rattle.rules.specs.Check.{fits, cellOk, cellAt, refOk, entryOk, runningOk, refs, countOk, sound}
 use Rattle.laws.specs.Lists.Tests.{every-pass, pass-every, clash, fails, and-join, and-left, and-right, below-all, below-at, all-all, all-at}
 use Rattle.laws.specs.Lists.Tables.{inside, slot-entry, slots-length}
@@ -238,17 +238,17 @@ module _ (h : Heap) (z : Sized h) where
       subst (λ (k : ℕ). Reference h (getD (h .slots) k 0)) (omega arith) (r .rule3 .1 (i / 8) (i % 8) (omega (arith, z .slots)) (omega arith))
 
   -- rule 4: the queue's entries are distinct
-  pub entries-once : Sound h → (x : ℕ) → occ x (entries h) ≤ 1
+  pub entries-once : Rule4 h → (x : ℕ) → occ x (entries h) ≤ 1
   entries-once r =
-      let len = entries-length (r .rule4 .0) in
-      apart-once (entries h) (λ i j o l e. r .rule4 .1 i j o (omega arith) (sym (in-use i (omega arith)) ∙ e ∙ in-use j (omega arith)))
+      let len = entries-length (r .0) in
+      apart-once (entries h) (λ i j o l e. r .1 i j o (omega arith) (sym (in-use i (omega arith)) ∙ e ∙ in-use j (omega arith)))
 
   pub of-sound : Sound h → sound h ≡ true
   unfolding sound cellAt refs
   of-sound r =
       let few = r .rule4 .0 in
       let len = entries-length few in
-      let once = entries-once r in
+      let once = entries-once (r .rule4) in
       pass-every _ (
         below-all _ _ (λ c l. cell-ok _ _ _ _ (record {
           small = r .rule1 c l .0;

@@ -11,7 +11,7 @@ use lib.Dec.{leb, eqb}
 use lib.ListN.{length, getD, take, drop, set, length-set, length-append}
 use lib.Seq.{take-add, getD-set-same, getD-set-other}
 use borrow.Author.Tests.{leb-true, le-leb, lt-leb, eqb-true}
-use Rattle.rules.specs.Lists.{all, occ}
+use Rattle.rules.specs.Lists.{all, occ, dangling}
 use Rattle.laws.specs.Lists.Tests.{split, all-at}
 use Rattle.laws.specs.Lists.Occ.{occ-nil, occ-one, occ-other, occ-append, occ-none, occ-length}
 
@@ -29,11 +29,6 @@ pub record Tallied (before l after : List ℕ) : Type 0 where
 pub record TallyRoom (tally : List ℕ) (k : ℕ) : Type 0 where
   pub some : 1 ≤ length tally
   pub fits16 : (x : ℕ) → getD tally x 0 + k < 65536
-
--- how many entries name none of n cells
-unfoldable pub dangling : ℕ → List ℕ → ℕ
-dangling n [] = 0
-dangling n (x ∷ l) = cond (leb x n) 0 1 + dangling n l
 
 -- ---- what is counted
 
@@ -115,7 +110,7 @@ dangling-length n (x ∷ l) = go (leb x n) (dangling-length n l)
     go true ih = omega arith
     go false ih = omega arith
 
-dangling-append : (n : ℕ) (l m : List ℕ) → dangling n (l ++ m) ≡ dangling n l + dangling n m
+pub dangling-append : (n : ℕ) (l m : List ℕ) → dangling n (l ++ m) ≡ dangling n l + dangling n m
 unfolding dangling
 dangling-append n [] m = omega arith
 dangling-append n (x ∷ l) m = omega (arith, dangling-append n l m)

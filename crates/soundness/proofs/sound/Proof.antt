@@ -9,7 +9,8 @@ use lib.Seq.{length-take-le}
 use mathlib.Core.Path.{sym, _∙_, ap}
 use native.Mathlib.Omega.{arith}
 use Rattle.rules.specs.Lists.{all}
-use Rattle.soundness.proofs.Scratch.{clear-length, scratch, part-rest, part-most}
+use Rattle.tally.proofs.Scratch.{clear-length, part-rest}
+use Rattle.soundness.proofs.Scratch.{scratch, part-most}
 use Rattle.soundness.proofs.Whole.{by-tally, bad-length, bad-running, bad-rest}
 use Rattle.soundness.proofs.sound.Statement.{statement}
 use Rattle.soundness.proofs.sound.Tie as tie

@@ -9,7 +9,7 @@ use Rattle.soundness.proofs.tally_cell.Statement.{statement}
 use Rattle.soundness.proofs.tally_cell.Tie as tie
 
 tally-all-requires : tie.Need-tally-all-requires
-tally-all-requires c κs = (less-room 8 _ (omega arith) (c .before .before .before .before .pre .0), omega arith, omega arith)
+tally-all-requires c κs = (less-room 8 _ (omega arith) (c .before .before .before .before .pre .0), omega arith)
 
 same-length : tie.Need-same-length
 same-length c = (c .before .before .tally-all .kept .0)

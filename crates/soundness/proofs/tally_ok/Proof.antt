@@ -50,7 +50,6 @@ tally-all-requires c κs =
           (entry .pre) _
           ((c .before .before .before .before .before .before .before .before .tally-queue .ensures .1) (not-false _ (c .before .before .before .before .before .if1 .left))),
       omega (arith, (entry .pre .roots-size)),
-      omega (arith, (entry .pre .roots-size)),
     )
 
 same-length-3 : tie.Need-same-length-3

@@ -1,0 +1,4 @@
+pub mod Dumps
+pub mod Reading
+pub mod Holding
+pub mod Claims

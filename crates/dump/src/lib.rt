@@ -1,0 +1,5 @@
+// Heaps that come as text, read a byte at a time.
+mod field;
+mod line;
+pub mod reader;
+pub mod table;

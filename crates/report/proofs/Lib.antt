@@ -1,0 +1,5 @@
+pub mod Texts
+pub mod Widths
+pub mod Cells
+pub mod Writing
+pub mod Pieces
