@@ -1,4 +1,4 @@
-/* Runs one case of the benchmark on one of the two heaps; callgrind counts what happens inside `measured`. */
+/* Runs one case of the benchmark on one of the two heaps; callgrind counts what happens inside `measured` and its like. */
 #include "heap.h"
 
 #include <stdio.h>
@@ -15,32 +15,9 @@ static int32_t differences[N];
 
 static int proved;
 
-/* The audit of either heap; the answer is a digest of its row. */
-static vek_answer audit(void)
-{
-    vek_report report = VEK_REPORT_START;
-    vek_audited a = proved ? vek_audit(VEK_LEND(heap), VEK_LEND_TABLE(differences), report)
-                           : c_audit(VEK_LEND(heap), VEK_LEND_TABLE(differences), report);
-    return (vek_answer){a.refused, (uint16_t)a.heap.below, (uint16_t)a.heap.above, (uint16_t)a.heap.sum};
-}
-
-/* All cell lines by the C version; the answer's number of cells is that of the lines. */
-static vek_answer cell_lines(void)
-{
-    static uint8_t lines[64 * N];
-    uint8_t *end = lines;
-    for (uint32_t c = 0; c < N; c++)
-        end = c_cell_line(end, 1, c, differences[c]);
-    return (vek_answer){end == lines, N, 0, 0};
-}
-
 /* A call of either heap. */
 static vek_answer call(int op, size_t a, size_t b, size_t c)
 {
-    if (op == 9)
-        return audit();
-    if (op == 10)
-        return cell_lines();
     if (!proved) {
         switch (op) {
         case 1: return c_new(VEK_LEND(heap), a, b, c);
@@ -68,6 +45,25 @@ static vek_answer call(int op, size_t a, size_t b, size_t c)
 }
 
 __attribute__((noinline)) vek_answer measured(int op, size_t a, size_t b, size_t c) { return call(op, a, b, c); }
+
+/* The audit of either heap; the answer is a digest of its row. */
+__attribute__((noinline)) vek_answer measured_audit(void)
+{
+    vek_report report = VEK_REPORT_START;
+    vek_audited a = proved ? vek_audit(VEK_LEND(heap), VEK_LEND_TABLE(differences), report)
+                           : c_audit(VEK_LEND(heap), VEK_LEND_TABLE(differences), report);
+    return (vek_answer){a.refused, (uint16_t)a.heap.below, (uint16_t)a.heap.above, (uint16_t)a.heap.sum};
+}
+
+/* All cell lines by the C version; the answer's number of cells is that of the lines. */
+__attribute__((noinline)) vek_answer measured_lines(void)
+{
+    static uint8_t lines[64 * N];
+    uint8_t *end = lines;
+    for (uint32_t c = 0; c < N; c++)
+        end = c_cell_line(end, 1, c, differences[c]);
+    return (vek_answer){end == lines, N, 0, 0};
+}
 
 /* ---- heaps, written entry by entry */
 
@@ -248,9 +244,9 @@ int main(int argc, char **argv)
     } else if (!strcmp(name, "collect-strings")) {
         ring_of_strings(), a = measured(6, 0, 0, 0);
     } else if (!strcmp(name, "audit")) {
-        wrong_counts(), a = measured(9, 0, 0, 0);
+        wrong_counts(), a = measured_audit();
     } else if (!strcmp(name, "cell-lines")) {
-        wrong_counts(), audit(), a = measured(10, 0, 0, 0);
+        wrong_counts(), c_audit(VEK_LEND(heap), VEK_LEND_TABLE(differences), (vek_report)VEK_REPORT_START), a = measured_lines();
     } else if (!strcmp(name, "dump")) {
         wrong_counts(), write_tables();
         return 0;

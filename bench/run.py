@@ -53,8 +53,8 @@ def callgrind(folder, command, toggle=(), stdin=subprocess.DEVNULL):
 
 
 def measured(folder, program, heap, case):
-    """Instructions inside `measured`, the program's numbers, and callgrind's file."""
-    total, said, out = callgrind(folder, [program, heap, case], ["--toggle-collect=measured"])
+    """Instructions inside the functions `measured*`, the program's numbers, and callgrind's file."""
+    total, said, out = callgrind(folder, [program, heap, case], ["--toggle-collect=measured*"])
     return total, [int(x) for x in said.split()], out
 
 

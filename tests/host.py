@@ -8,7 +8,7 @@
 - examples/slow_line.c, as C and as C++, answers each line before the next bit of its input is sent, and in all as the
   program does, without the header; where it can't read or write it says so and fails.
 - What examples/dump.c, as C and as C++, sends is audited as its two heaps are. Where the audit can't read or write it says so,
-  and writes no wrong line.
+  and writes no wrong line; it runs in 64 KiB beyond the heap.
 - `make install` into an empty folder gives a package of the header's version that the example builds with, by
   pkg-config alone; `make uninstall` leaves no file there.
 - `make` lists every target. `make run` and `make audit` write what the programs write, and beside it one line for each
@@ -205,6 +205,17 @@ def dumps(folder):
     yield "make dump", made.stderr.decode(), made.returncode == 0 and audited(made.stdout).stdout == report(*DUMPED)
 
 
+def little_room(_):
+    """The audit of the largest heap, ten times over, with a stack for it and 64 KiB; there is no other memory that the program asks for."""
+    tables = (1024, 1024, 1024, 8192, 64, 1024, 2)
+    heap = "".join(",".join(["1"] * size) + "\r\n" for size in tables).encode()
+    most = 2 * sum(tables) + 65536
+    limited = {"env": {}, "preexec_fn": lambda: resource.setrlimit(resource.RLIMIT_STACK, (most, most))}
+    done = subprocess.run([AUDITOR], input=10 * heap, capture_output=True, **limited)
+    well = (done.returncode, done.stdout.count(b"\r\n"), done.stderr) == (0, 1 + 10 * 1025 + 1, b"")
+    yield "audit in 64 KiB beyond the heap", "done" if well else f"{done.returncode} {done.stderr!r}", well
+
+
 def cut_short(folder, source, most):
     """What the audit writes where its output takes so many bytes, and what it says."""
     target = folder / "report.csv"
@@ -323,7 +334,7 @@ def small(folder):
 def main():
     subprocess.run(["make", *(path.relative_to(TOP) for path in (ARCHIVE, PROGRAM, AUDITOR))], cwd=TOP, check=True)
     passed = failed = 0
-    for tests in (c_tests, header, stateless, examples, slow_lines, dumps, audit_failures, installed, targets, programs, small):
+    for tests in (c_tests, header, stateless, examples, slow_lines, dumps, audit_failures, little_room, installed, targets, programs, small):
         with tempfile.TemporaryDirectory() as folder:
             for name, said, well in tests(pathlib.Path(folder)):
                 passed, failed = passed + well, failed + (not well)

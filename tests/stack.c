@@ -35,6 +35,15 @@ static void hold(void) { progress = vek_take(VEK_LEND(heap), (vek_reader){0}, li
 static void run_take(void) { progress = vek_take(VEK_LEND(heap), (vek_reader){0}, line, sizeof line, out, VEK_ANSWER_LEN); }
 static void run_end(void) { progress = vek_end(VEK_LEND(heap), progress.reader, out, VEK_ANSWER_LEN); }
 
+/* The audit; its row, a chain's N cells at zero, is looked at here. */
+static int32_t differences[N];
+
+static void run_audit(void)
+{
+    vek_audited a = vek_audit(VEK_LEND(heap), differences, N, (vek_report)VEK_REPORT_START);
+    answer = (vek_answer){a.refused, (uint16_t)(N - a.heap.at), 0, 0};
+}
+
 /* What the line's answer says, for `measure` to look at. */
 static void read_answer(void)
 {
@@ -100,6 +109,7 @@ int main(void)
     measure("start", run_start, 0), measure("finish", run_finish, N);
     chain(N, 1), measure("take, a line of COLLECT", run_take, 0);
     chain(N, 1), hold(), measure("end, a line of COLLECT", run_end, 0);
+    chain(N, 1), measure("audit", run_audit, 0);
     measure("fresh", run_fresh, 0);
     return failed;
 }

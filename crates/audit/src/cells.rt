@@ -75,7 +75,6 @@ fn compare(differences: &mut [i32], count: &[u16], counted: &[u16]) -> Sides
     sides
 }
 
-// As `sum`.
 // The row of a heap: the cells that are on neither side are at zero.
 fn row_of(sides: Sides, cells: usize, lost: usize) -> Row
     requires { ⌜ (sides .below + sides .above ≤ cells) × (cells ≤ 1024) ⌝ }

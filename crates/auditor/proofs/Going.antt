@@ -168,8 +168,10 @@ one-byte-more bytes i h =
 was-more : (p q : Progress) (e n b e′ n′ : List ℕ) (x : Served) → x ≡ More q → Taken p e n b x e′ n′ → Advanced p e n b q e′ n′
 was-more p q e n b e′ n′ x is t = subst (λ (y : Served). Taken p e n b y e′ n′) is t
 
-module _ {bytes : List ℕ} {p₀ : Progress} {entries₀ ends₀ : List ℕ} {d₀ : List ℤ} {out₀ : List ℕ} {entries ends : List ℕ} {d : List ℤ} {out : List ℕ} {p : Progress} {i : ℕ} (v : Taking bytes p₀ entries₀ ends₀ d₀ out₀ entries ends d out p i) where
-  pub taking-turn : (entries′ ends′ : List ℕ) (d′ : List ℤ) (out′ : List ℕ) (x : Served) (q : Progress) → length entries′ ≡ length entries → length ends′ ≡ length ends → length d′ ≡ length d → length out′ ≡ length out
+module _ {bytes : List ℕ} {p₀ : Progress} {entries₀ ends₀ : List ℕ} {d₀ : List ℤ} {out₀ : List ℕ} {entries ends : List ℕ} {d : List ℤ} {out : List ℕ}
+    {p : Progress} {i : ℕ} (v : Taking bytes p₀ entries₀ ends₀ d₀ out₀ entries ends d out p i) where
+  pub taking-turn : (entries′ ends′ : List ℕ) (d′ : List ℤ) (out′ : List ℕ) (x : Served) (q : Progress) → length entries′ ≡ length entries → length
+      ends′ ≡ length ends → length d′ ≡ length d → length out′ ≡ length out
       → i < length bytes → x ≡ More q → Taken p entries ends (getD bytes i 0 ∷ []) x entries′ ends′ → Taking bytes p₀ entries₀ ends₀ d₀ out₀ entries′ ends′ d′ out′ q (i + 1)
   taking-turn entries′ ends′ d′ out′ x q le ln ld lo h is t =
       record {
@@ -178,7 +180,8 @@ module _ {bytes : List ℕ} {p₀ : Progress} {entries₀ ends₀ : List ℕ} {d
         differencesLength = ld ∙ v .differencesLength;
         outLength = lo ∙ v .outLength;
         bound = omega arith;
-        advanced = rw (one-byte-more bytes i h) (advanced-more p₀ p q entries₀ ends₀ (take i bytes) entries ends (getD bytes i 0 ∷ []) entries′ ends′ (v .advanced) (was-more p q entries ends _ entries′ ends′ x is t));
+        advanced = rw (one-byte-more bytes i h) (advanced-more p₀ p q entries₀ ends₀ (take i bytes) entries ends (getD bytes i 0 ∷ []) entries′ ends′
+            (v .advanced) (was-more p q entries ends _ entries′ ends′ x is t));
       }
 
   pub taking-done : length bytes ≤ i → Advanced p₀ entries₀ ends₀ bytes p entries ends

@@ -1,5 +1,4 @@
 // The audit of a heap that was read.
-ghost use Prim.Native.Nat.{_≤_};
 ghost use mathlib.Core.Path.{_≡_};
 ghost use lib.ListN.{length};
 ghost use Rattle.dump.specs.Holding.{Complete};

@@ -15,7 +15,8 @@ use Rattle.dump.specs.Dumps.{unfit, tableOf}
 use Rattle.dump.specs.Reading.{State, with, spoiled, digit, entered, inLine, withCr}
 use Rattle.dump.specs.Holding.{size}
 use Rattle.dump.proofs.Cases.{line-spoilt, line-comma, line-other, line-digit, withEntry}
-use Rattle.dump.proofs.Meaning.{rowFrom, lineFrom, Knows, exactly, over, Follows}
+use Rattle.dump.proofs.Meaning.{rowFrom, lineFrom, Knows, Follows}
+use Rattle.dump.proofs.Meaning.Knows.{exactly, over}
 use Rattle.dump.proofs.Rows.{heavy, line-cons, line-begun, line-cr, Entered, spoils, stores, field-ends}
 use Rattle.dump.proofs.RowBytes.{row-comma, row-other, Digit, refused, takes, a-digit, taken}
 

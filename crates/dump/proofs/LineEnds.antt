@@ -11,7 +11,8 @@ use Rattle.dump.specs.Reading.{State, startState, spoiled, entered, last
 use Rattle.dump.specs.Holding.{size}
 use Rattle.dump.proofs.Cases.{withEntry, last-spoilt, last-none, last-entered}
 use Rattle.dump.proofs.Tables.{size-last}
-use Rattle.dump.proofs.Meaning.{rowFrom, lineFrom, Knows, exactly, over, Follows}
+use Rattle.dump.proofs.Meaning.{rowFrom, lineFrom, Knows, Follows}
+use Rattle.dump.proofs.Meaning.Knows.{exactly, over}
 use Rattle.dump.proofs.Rows.{line-begun, line-empty, Entered, spoils, stores, field-ends, row-last, fresh-line}
 
 -- the line ends with the table x

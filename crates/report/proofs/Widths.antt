@@ -26,7 +26,8 @@ signed-width k (negsuc n) h = omega (arith, length-append (45 ∷ decimalOf (suc
 
 -- the six columns, from the widths of each
 columns-width : (r : Row) (a b c d e f : ℕ)
-    → length (fieldText (r .below)) ≤ a → length (fieldText (r .at)) ≤ b → length (fieldText (r .above)) ≤ c → length (signedField (r .sum)) ≤ d → length (fieldText (r .lost)) ≤ e → length (lastText (r .size)) ≤ f
+    → length (fieldText (r .below)) ≤ a → length (fieldText (r .at)) ≤ b → length (fieldText (r .above)) ≤ c → length (signedField (r .sum)) ≤ d →
+    length (fieldText (r .lost)) ≤ e → length (lastText (r .size)) ≤ f
     → length (columns r) ≤ a + (b + (c + (d + (e + f))))
 unfolding columns
 columns-width r a b c d e f ha hb hc hd he hf =

@@ -1,5 +1,4 @@
 // The columns that a line ends with, each a number and what stands after it.
-ghost use Prim.Native.Nat.{_+_};
 ghost use Rattle.csv.specs.Decimal.{fieldText, lastText};
 ghost use Rattle.csv.specs.Written.{Wrote};
 ghost use Rattle.rules.specs.AuditReport.{signedOf, signedField, columns};

@@ -15,7 +15,6 @@ use columns::put_column;
 use columns::put_columns;
 use csv::number::put_byte;
 pub use piece::PIECE;
-pub use piece::Piece;
 pub use piece::write_piece;
 use rules::audit::Row;
 use signed::wide;

@@ -7,13 +7,28 @@ use Rattle.auditor.proofs.close.Statement.{statement}
 use Rattle.auditor.proofs.close.Tie as tie
 
 totals-line-requires : tie.Need-totals-line-requires
-totals-line-requires c κs = omega (arith, c .before .before .before .before .before .before .before .before .before .before .before .before .before .finish .kept .1 .1 .1 .1 .0, c .before .before .before .before .before .before .before .before .before .before .before .before .before .before .before .before .before .before .before .before .before .pre .1 .1)
+totals-line-requires c κs =
+    omega (
+      arith,
+      c .before .before .before .before .before .before .before .before .before .before .before .before .before .finish .kept .1 .1 .1 .1
+          .0,
+      c .before .before .before .before .before .before .before .before .before .before .before .before .before .before .before .before .before
+          .before .before .before .before .pre .1 .1,
+    )
 
 -- the line is no longer than the room for it
 fits : tie.Need-slice-reshare-prefix-write
 fits c =
     let totals-line = c .before .before .totals-line in
-    omega (arith, totals-line .ensures .1, totals-line .kept .0, c .before .before .before .before .before .before .before .before .before .before .before .before .before .before .before .before .finish .kept .1 .1 .1 .1 .0, c .before .before .before .before .before .before .before .before .before .before .before .before .before .before .before .before .before .before .before .before .before .before .before .before .pre .1 .1)
+    omega (
+      arith,
+      totals-line .ensures .1,
+      totals-line .kept .0,
+      c .before .before .before .before .before .before .before .before .before .before
+          .before .before .before .before .before .before .finish .kept .1 .1 .1 .1 .0,
+      c .before .before .before .before .before .before .before .before
+          .before .before .before .before .before .before .before .before .before .before .before .before .before .before .before .before .pre .1 .1,
+    )
 
 slice-aggregate-write : tie.Need-slice-aggregate-write
 slice-aggregate-write c = sym (length-take-le _ _ (fits (c .before)))
@@ -37,5 +52,6 @@ close-spec =
     (λ c. c .before .before .before .before .before .before .before .before .before .before .before .before .before .before .before .before .before .before .finish .kept .1 .0)
     (λ c. c .before .before .before .before .before .before .before .before .before .before .before .before .before .before .before .before .before .before .finish .kept .1 .1 .0)
     (λ c. c .before .before .before .before .before .before .before .before .before .before .before .before .before .before .before .before .before .before .finish .kept .1 .1 .1 .0)
-    (λ c. c .before .before .before .before .totals-line .kept .0 ∙ c .before .before .before .before .before .before .before .before .before .before .before .before .before .before .before .before .before .before .finish .kept .1 .1 .1 .1 .0)
+    (λ c. c .before .before .before .before .totals-line .kept .0 ∙ c .before .before .before .before .before .before .before .before .before .before
+    .before .before .before .before .before .before .before .before .finish .kept .1 .1 .1 .1 .0)
     (λ c. tt))

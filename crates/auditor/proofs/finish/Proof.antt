@@ -24,7 +24,8 @@ returns-2 : tie.Need-returns-2
 returns-2 c =
     let p = c .before .before .before .before .before .before .before .before .before .before .before .before .before .before .before .before .before .before .before .before .before .args .p in
     let end = c .before .before .before .before .before .before .before .before .before .before .before .before .before .before .before .end in
-    end-served p (end .ensures) (onward p (end .result)) (c .before .before .before .serve .result) refl refl (c .before .before .before .before .before .before .before .before .if1 .left) (c .before .before .before .serve .ensures)
+    end-served p (end .ensures) (onward p (end .result)) (c .before .before .before .serve .result) refl refl (c .before .before .before .before
+    .before .before .before .before .if1 .left) (c .before .before .before .serve .ensures)
 
 pub finish-spec : {M : Type 1} → statement M
 finish-spec =

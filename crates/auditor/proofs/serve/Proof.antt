@@ -8,7 +8,14 @@ use Rattle.auditor.proofs.serve.Statement.{statement}
 use Rattle.auditor.proofs.serve.Tie as tie
 
 slice-aggregate-print : tie.Need-slice-aggregate-print
-slice-aggregate-print c = sym (length-take-le _ _ (omega (arith, c .before .cells .ensures .most, c .before .before .before .audit-heap .kept, c .before .before .before .before .before .before .before .before .before .pre .1 .0)))
+slice-aggregate-print c =
+    sym (length-take-le _ _ (omega (
+      arith,
+      c .before .cells .ensures .most,
+      c .before .before .before .audit-heap .kept,
+      c .before .before .before
+          .before .before .before .before .before .before .pre .1 .0,
+    )))
 
 returns-2 : tie.Need-returns-2
 returns-2 c =

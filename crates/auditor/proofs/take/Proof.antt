@@ -28,7 +28,8 @@ loop-again c =
     let take-byte = c .before .before .before .before .before .before .before .before .before .before .take-byte in
     taking-turn (c .before .before .before .before .before .before .before .before .before .before .before .before .before .before .before .before .before .loop .inv) _ _ _ _ _ _
     (take-byte .kept .1 .1 .0) (take-byte .kept .1 .1 .1 .0) (take-byte .kept .1 .1 .1 .1 .0) (take-byte .kept .1 .1 .1 .1 .1 .0)
-    (c .before .before .before .before .before .before .before .before .before .before .before .before .before .before .before .before .loop-test .taken) (c .before .next .given .1) (take-byte .ensures)
+    (c .before .before .before .before .before .before .before .before .before .before .before .before .before .before .before .before .loop-test
+    .taken) (c .before .next .given .1) (take-byte .ensures)
 
 returns-2 : tie.Need-returns-2 Inv-loop μ-loop
 returns-2 c = taking-done (c .before .loop .inv) (c .loop-test .left)
@@ -44,12 +45,22 @@ take-spec =
     take-byte-requires
     (λ c. search needs)
     (λ c. search needs)
-    (λ c. c .before .before .before .before .before .before .before .before .before .take-byte .kept .1 .1 .0 ∙ c .before .before .before .before .before .before .before .before .before .before .before .before .before .before .before .before .loop .inv .entriesLength)
-    (λ c. c .before .before .before .before .before .before .before .before .before .take-byte .kept .1 .1 .1 .0 ∙ c .before .before .before .before .before .before .before .before .before .before .before .before .before .before .before .before .loop .inv .endsLength)
-    (λ c. c .before .before .before .before .before .before .before .before .before .take-byte .kept .1 .1 .1 .1 .0 ∙ c .before .before .before .before .before .before .before .before .before .before .before .before .before .before .before .before .loop .inv .differencesLength)
-    (λ c. c .before .before .before .before .before .before .before .before .before .take-byte .kept .1 .1 .1 .1 .1 .0 ∙ c .before .before .before .before .before .before .before .before .before .before .before .before .before .before .before .before .loop .inv .outLength)
+    (λ c. c .before .before .before .before .before .before .before .before .before .take-byte .kept .1 .1 .0 ∙ c .before .before .before .before
+    .before .before .before .before .before .before .before .before .before .before .before .before .loop .inv .entriesLength)
+    (λ c. c .before .before .before .before .before .before .before .before .before .take-byte .kept .1 .1 .1 .0 ∙ c .before .before .before .before
+    .before .before .before .before .before .before .before .before .before .before .before .before .loop .inv .endsLength)
+    (λ c. c .before .before .before .before .before .before .before .before .before .take-byte .kept .1 .1 .1 .1 .0 ∙ c .before .before .before
+    .before .before .before .before .before .before .before .before .before .before .before .before .before .loop .inv .differencesLength)
+    (λ c. c .before .before .before .before .before .before .before .before .before .take-byte .kept .1 .1 .1 .1 .1 .0 ∙ c .before .before .before
+    .before .before .before .before .before .before .before .before .before .before .before .before .before .loop .inv .outLength)
     (λ c. tt)
-    (λ c. omega (arith, c .before .before .before .before .before .before .before .before .before .before .before .before .before .before .before .before .loop-test .taken, c .before .before .before .before .before .before .before .before .before .before .before .before .before .before .before .before .before .before .before .before .before .before .good .1 .0))
+    (λ c. omega (
+      arith,
+      c .before .before .before .before .before .before .before .before .before .before .before .before .before .before .before
+          .before .loop-test .taken,
+      c .before .before .before .before .before .before .before .before .before .before .before .before .before .before
+          .before .before .before .before .before .before .before .before .good .1 .0,
+    ))
     (λ c. search needs)
     loop-again
     (λ c. c .before .loop .inv .entriesLength)

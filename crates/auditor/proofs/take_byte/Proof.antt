@@ -26,7 +26,8 @@ returns-2 c =
     let entry = c .before .before .before .before .before .before .before .before .before .before .before .before .before .before .before .before .before .before .before .before .before in
     let feed = c .before .before .before .before .before .before .before .before .before .before .before .before .before .before .before .feed in
     let p = entry .args .p in
-    byte-served p (entry .args .byte) (feed .ensures) (onward p (feed .result)) (c .before .before .before .serve .result) refl refl (c .before .before .before .before .before .before .before .before .if1 .left) (c .before .before .before .serve .ensures)
+    byte-served p (entry .args .byte) (feed .ensures) (onward p (feed .result)) (c .before .before .before .serve .result) refl refl (c .before
+    .before .before .before .before .before .before .before .if1 .left) (c .before .before .before .serve .ensures)
     (feed .kept .1 .1 .0 ∙ entry .pre .0 .ready .room) (feed .kept .1 .1 .1 .0 ∙ entry .pre .0 .ready .marks)
 
 pub take-byte-spec : {M : Type 1} → statement M

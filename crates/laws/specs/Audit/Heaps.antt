@@ -29,11 +29,35 @@ pub record Cell (x : ℤ) (r : Row) : Type 0 where
 
 cell : (x : ℤ) → up x ≤ 65535 → down x ≤ 9280 → Cell x (cellRow x)
 cell (pos zero) a b =
-    record { sum = record { is = omega arith; over = omega arith; missing = omega arith }; one = refl; overSome = omega arith; overMost = omega arith; missingSome = omega arith; missingHeaps = omega arith; noneLost = refl }
+    record {
+      sum = record { is = omega arith; over = omega arith; missing = omega arith };
+      one = refl;
+      overSome = omega arith;
+      overMost = omega arith;
+      missingSome = omega arith;
+      missingHeaps = omega arith;
+      noneLost = refl;
+    }
 cell (pos (suc n)) a b =
-    record { sum = record { is = omega arith; over = omega arith; missing = omega arith }; one = refl; overSome = omega arith; overMost = omega arith; missingSome = omega arith; missingHeaps = omega arith; noneLost = refl }
+    record {
+      sum = record { is = omega arith; over = omega arith; missing = omega arith };
+      one = refl;
+      overSome = omega arith;
+      overMost = omega arith;
+      missingSome = omega arith;
+      missingHeaps = omega arith;
+      noneLost = refl;
+    }
 cell (negsuc n) a b =
-    record { sum = record { is = omega arith; over = omega arith; missing = omega arith }; one = refl; overSome = omega arith; overMost = omega arith; missingSome = omega arith; missingHeaps = omega arith; noneLost = refl }
+    record {
+      sum = record { is = omega arith; over = omega arith; missing = omega arith };
+      one = refl;
+      overSome = omega arith;
+      overMost = omega arith;
+      missingSome = omega arith;
+      missingHeaps = omega arith;
+      noneLost = refl;
+    }
 
 -- the first n cells, where the references are l
 pub record Cells (l : List ℕ) (n : ℕ) (r : Row) : Type 0 where
@@ -60,7 +84,19 @@ module _ (count : ℕ → ℕ) (l : List ℕ) (small : (c : ℕ) → count c < 6
   pub cells-to : (n : ℕ) → Cells l n (rowTo off n)
   unfolding rowTo
   cells-to zero =
-      record { over = 0; missing = 0; sum = record { is = omega arith; over = omega arith; missing = omega arith }; all = refl; overSome = omega arith; overMost = omega arith; missingSome = omega arith; missingHeaps = omega arith; missingMost = omega arith; noneLost = refl }
+      record {
+        over = 0;
+        missing = 0;
+        sum = record { is = omega arith; over = omega arith; missing = omega arith };
+        all = refl;
+        overSome = omega
+            arith;
+        overMost = omega arith;
+        missingSome = omega arith;
+        missingHeaps = omega arith;
+        missingMost = omega arith;
+        noneLost = refl;
+      }
   cells-to (suc n) =
       let p = cells-to n in
       let q = one-cell n in

@@ -18,7 +18,8 @@ use Rattle.rules.specs.declared.audit.Report.{Report}
 use Rattle.rules.specs.declared.audit.Audited.{Audited}
 use Rattle.rules.specs.Heap.{cells, countOf}
 use Rattle.rules.specs.Check.{fits}
-use Rattle.rules.specs.Audit.{plus, fittingRow, sizeRow, up, down, Lent, admitted, lentRow, empty, possibleFor, possible, refusalOf, with, taking, refusing, audited, reportFrom, sumOf, Sixteen, Holds, AuditAddsUp}
+use Rattle.rules.specs.Audit.{plus, fittingRow, sizeRow, up, down, Lent, admitted, lentRow, empty}
+use Rattle.rules.specs.Audit.{possibleFor, possible, refusalOf, with, taking, refusing, audited, reportFrom, sumOf, Sixteen, Holds, AuditAddsUp}
 use Rattle.laws.specs.Lists.Tests.{and-left, and-join}
 use Rattle.laws.specs.Sound.Reflect.{fits-sized}
 use Rattle.laws.specs.Audit.Rows.{plus-assoc, plus-none, none-plus}

@@ -61,7 +61,8 @@ returns : tie.Need-returns
 unfolding cellLine
 returns c =
     let columns-are = rw (wide-is (c .before .before .before)) at (c .before .before .put-cell .ensures) in
-    let line = wrote-more _ _ _ _ _ _ _ _ (c .before .before .before .before .before .before .before .before .before .before .before .put-column .ensures) (wrote-more _ _ _ _ _ _ _ _ (c .before .before .before .before .before .before .before .put-column2 .ensures) columns-are) in
+    let line = wrote-more _ _ _ _ _ _ _ _ (c .before .before .before .before .before .before .before .before .before .before .before .put-column
+    .ensures) (wrote-more _ _ _ _ _ _ _ _ (c .before .before .before .before .before .before .before .put-column2 .ensures) columns-are) in
     (line, omega (arith, line .end, width (c .before .before .before .before .before .before .before .before .before .before .before .before .before .before)))
 
 pub cell-line-spec : {M : Type 1} → statement M

@@ -56,7 +56,8 @@ returns : tie.Need-returns
 unfolding heapLine
 returns c =
     let entry = c .before .before .before .before .before .before .before .before .before .before .before .before .before in
-    let line = wrote-more _ _ _ _ _ _ _ _ (c .before .before .before .before .before .before .before .before .before .before .put-column .ensures) (wrote-more _ _ _ _ _ _ _ _ (c .before .before .before .before .before .before .put-byte .ensures) (c .before .before .put-columns .ensures)) in
+    let line = wrote-more _ _ _ _ _ _ _ _ (c .before .before .before .before .before .before .before .before .before .before .put-column .ensures)
+    (wrote-more _ _ _ _ _ _ _ _ (c .before .before .before .before .before .before .put-byte .ensures) (c .before .before .put-columns .ensures)) in
     (line, omega (arith, line .end, width entry))
 
 pub heap-line-spec : {M : Type 1} → statement M

@@ -55,7 +55,8 @@ returns : tie.Need-returns
 unfolding totalsLine
 returns c =
     let entry = c .before .before .before .before .before .before .before .before .before .before .before .before .before in
-    let line = wrote-more _ _ _ _ _ _ _ _ (c .before .before .before .before .before .before .before .before .before .before .put-byte .ensures) (wrote-more _ _ _ _ _ _ _ _ (c .before .before .before .before .before .before .put-byte2 .ensures) (c .before .before .put-columns .ensures)) in
+    let line = wrote-more _ _ _ _ _ _ _ _ (c .before .before .before .before .before .before .before .before .before .before .put-byte .ensures)
+    (wrote-more _ _ _ _ _ _ _ _ (c .before .before .before .before .before .before .put-byte2 .ensures) (c .before .before .put-columns .ensures)) in
     (line, omega (arith, line .end, width entry))
 
 pub totals-line-spec : {M : Type 1} → statement M

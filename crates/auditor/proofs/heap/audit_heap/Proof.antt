@@ -8,14 +8,28 @@ use Rattle.auditor.proofs.heap.audit_heap.Statement.{statement}
 use Rattle.auditor.proofs.heap.audit_heap.Tie as tie
 
 slice-aggregate-audit : tie.Need-slice-aggregate-audit
-slice-aggregate-audit c = sym (length-take-le _ _ (omega (arith, c .before .before .before .before .before .before .before .before .cells .ensures .most, c .before .before .before .before .before .before .before .before .before .before .before .pre .1)))
+slice-aggregate-audit c =
+    sym (length-take-le _ _ (omega (
+      arith,
+      c .before .before .before .before .before .before .before .before .cells .ensures .most,
+      c .before .before
+          .before .before .before .before .before .before .before .before .before .pre .1,
+    )))
 
 returns : tie.Need-returns
 returns c =
     let cells = c .before .before .before .before .before .before .before .before .before .before .cells .ensures in
     heap-audited _ _ _ _ _ _ _ _ _ _ _ _ _ _
-    (c .before .before .before .before .before .before .before .before .before .table .ensures) (c .before .before .before .before .before .before .before .before .table2 .ensures) (c .before .before .before .before .before .before .before .table3 .ensures) (c .before .before .before .before .before .before .table4 .ensures) (c .before .before .before .before .before .table5 .ensures) (c .before .before .before .before .table6 .ensures) (c .before .before .before .table7 .ensures)
-    cells (length-take-le _ _ (omega (arith, cells .most, c .before .before .before .before .before .before .before .before .before .before .before .before .before .pre .1))) (c .before .audit .ensures .0)
+    (c .before .before .before .before .before .before .before .before .before .table .ensures) (c .before .before .before .before .before .before
+    .before .before .table2 .ensures) (c .before .before .before .before .before .before .before .table3 .ensures) (c .before .before .before .before
+    .before .before .table4 .ensures) (c .before .before .before .before .before .table5 .ensures) (c .before .before .before .before .table6
+    .ensures) (c .before .before .before .table7 .ensures)
+    cells (length-take-le _ _ (omega (
+      arith,
+      cells .most,
+      c .before .before .before .before .before .before .before .before .before .before .before
+          .before .before .pre .1,
+    ))) (c .before .audit .ensures .0)
 
 pub audit-heap-spec : {M : Type 1} → statement M
 audit-heap-spec =

@@ -26,7 +26,8 @@ returns : tie.Need-returns
 returns c =
     let entry = c .before .before .before .before .before .before .before .before .before in
     let n = entry .args .n in
-    digit-behind n (entry .pre .0) (rw (sym (one-digit (n / 10) (omega (arith, entry .pre .1)))) at (c .before .before .before .before .before .before .put-last-digit .ensures)) (c .before .before .put-last-digit2 .ensures)
+    digit-behind n (entry .pre .0) (rw (sym (one-digit (n / 10) (omega (arith, entry .pre .1)))) at (c .before .before .before .before .before .before
+    .put-last-digit .ensures)) (c .before .before .put-last-digit2 .ensures)
 
 pub put-two-digits-spec : {M : Type 1} → statement M
 put-two-digits-spec = tie.close (tie.spec put-last-digit-requires put-last-digit-requires-2 same-length returns)

@@ -23,7 +23,9 @@ same-length : tie.Need-same-length
 same-length c = search needs
 
 returns : tie.Need-returns
-returns c = rw (side-below (c .before .before .before .before .before .before .before .args .x) (side (c .before .before .before .before .before) ∙ c .before .before .before .before .if1 .taken)) (c .before .before .put-six .ensures)
+returns c =
+    rw (side-below (c .before .before .before .before .before .before .before .args .x) (side (c .before .before .before .before .before) ∙ c .before
+    .before .before .before .if1 .taken)) (c .before .before .put-six .ensures)
 
 put-six-requires-2 : tie.Need-put-six-requires-2
 put-six-requires-2 c κs = search needs
@@ -32,7 +34,10 @@ same-length-2 : tie.Need-same-length-2
 same-length-2 c = search needs
 
 returns-2 : tie.Need-returns-2
-returns-2 c = rw (side-at w64 (c .before .before .before .before .before .before .before .before .args .x) (side (c .before .before .before .before .before .before) ∙ c .before .before .before .before .before .if1 .left) (c .before .before .before .before .if2 .taken)) (c .before .before .put-six2 .ensures)
+returns-2 c =
+    rw (side-at w64 (c .before .before .before .before .before .before .before .before .args .x) (side (c .before .before .before .before .before
+    .before) ∙ c .before .before .before .before .before .if1 .left) (c .before .before .before .before .if2 .taken)) (c .before .before .put-six2
+    .ensures)
 
 put-six-requires-3 : tie.Need-put-six-requires-3
 put-six-requires-3 c κs = search needs
@@ -41,7 +46,10 @@ same-length-3 : tie.Need-same-length-3
 same-length-3 c = search needs
 
 returns-3 : tie.Need-returns-3
-returns-3 c = rw (side-above w64 (c .before .before .before .before .before .before .before .before .args .x) (side (c .before .before .before .before .before .before) ∙ c .before .before .before .before .before .if1 .left) (c .before .before .before .before .if2 .left)) (c .before .before .put-six3 .ensures)
+returns-3 c =
+    rw (side-above w64 (c .before .before .before .before .before .before .before .before .args .x) (side (c .before .before .before .before .before
+    .before) ∙ c .before .before .before .before .before .if1 .left) (c .before .before .before .before .if2 .left)) (c .before .before .put-six3
+    .ensures)
 
 pub put-side-spec : {M : Type 1} → statement M
 put-side-spec =

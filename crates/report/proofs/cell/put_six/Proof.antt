@@ -28,8 +28,12 @@ same-length c = search needs
 returns : tie.Need-returns
 returns c =
     let last-two = wrote-more _ _ _ _ _ _ _ _ (c .before .before .before .before .before .before .put-byte5 .ensures) (c .before .before .put-byte6 .ensures) in
-    let last-four = wrote-more _ _ _ _ _ _ _ _ (c .before .before .before .before .before .before .before .before .before .before .before .before .before .before .put-byte3 .ensures) (wrote-more _ _ _ _ _ _ _ _ (c .before .before .before .before .before .before .before .before .before .before .put-byte4 .ensures) last-two) in
-    wrote-more _ _ _ _ _ _ _ _ (c .before .before .before .before .before .before .before .before .before .before .before .before .before .before .before .before .before .before .before .before .before .before .put-byte .ensures) (wrote-more _ _ _ _ _ _ _ _ (c .before .before .before .before .before .before .before .before .before .before .before .before .before .before .before .before .before .before .put-byte2 .ensures) last-four)
+    let last-four = wrote-more _ _ _ _ _ _ _ _ (c .before .before .before .before .before .before .before .before .before .before .before .before
+    .before .before .put-byte3 .ensures) (wrote-more _ _ _ _ _ _ _ _ (c .before .before .before .before .before .before .before .before .before
+    .before .put-byte4 .ensures) last-two) in
+    wrote-more _ _ _ _ _ _ _ _ (c .before .before .before .before .before .before .before .before .before .before .before .before .before .before
+    .before .before .before .before .before .before .before .before .put-byte .ensures) (wrote-more _ _ _ _ _ _ _ _ (c .before .before .before .before
+    .before .before .before .before .before .before .before .before .before .before .before .before .before .before .put-byte2 .ensures) last-four)
 
 pub put-six-spec : {M : Type 1} → statement M
 put-six-spec =

@@ -40,7 +40,8 @@ unfolding columns
 put-column-requires-4 c κs =
     let entry = c .before .before .before .before .before .before .before .before .before .before .before .before .before .before .before .before .before .before .before in
     let row = entry .args .row in
-    let after-one = room-rest (from-at row) (c .before .before .before .before .before .before .before .before .before .before .before .before .before .before .before .before .put-column .ensures) (entry .pre) in
+    let after-one = room-rest (from-at row) (c .before .before .before .before .before .before .before .before .before .before .before .before .before
+    .before .before .before .put-column .ensures) (entry .pre) in
     let after-two = room-rest (from-above row) (c .before .before .before .before .before .before .before .before .before .before .before .before .put-column2 .ensures) after-one in
     let after-three = room-rest (from-sum row) (c .before .before .before .before .before .before .before .before .put-column3 .ensures) after-two in
     let summed = rw (back w64 (row .sum) (c .before .before .before .before .struct-told .given .1 .1 .1 .0 .1)) at (c .before .before .before .put-sum .ensures) in
@@ -49,12 +50,16 @@ put-column-requires-4 c κs =
 put-end-requires : tie.Need-put-end-requires
 unfolding columns
 put-end-requires c κs =
-    let entry = c .before .before .before .before .before .before .before .before .before .before .before .before .before .before .before .before .before .before .before .before .before .before .before in
+    let entry = c .before .before .before .before .before .before .before .before .before .before .before .before .before .before .before .before
+    .before .before .before .before .before .before .before in
     let row = entry .args .row in
-    let after-one = room-rest (from-at row) (c .before .before .before .before .before .before .before .before .before .before .before .before .before .before .before .before .before .before .before .before .put-column .ensures) (entry .pre) in
-    let after-two = room-rest (from-above row) (c .before .before .before .before .before .before .before .before .before .before .before .before .before .before .before .before .put-column2 .ensures) after-one in
+    let after-one = room-rest (from-at row) (c .before .before .before .before .before .before .before .before .before .before .before .before .before
+    .before .before .before .before .before .before .before .put-column .ensures) (entry .pre) in
+    let after-two = room-rest (from-above row) (c .before .before .before .before .before .before .before .before .before .before .before .before
+    .before .before .before .before .put-column2 .ensures) after-one in
     let after-three = room-rest (from-sum row) (c .before .before .before .before .before .before .before .before .before .before .before .before .put-column3 .ensures) after-two in
-    let summed = rw (back w64 (row .sum) (c .before .before .before .before .before .before .before .before .struct-told .given .1 .1 .1 .0 .1)) at (c .before .before .before .before .before .before .before .put-sum .ensures) in
+    let summed = rw (back w64 (row .sum) (c .before .before .before .before .before .before .before .before .struct-told .given .1 .1 .1 .0 .1)) at (c
+    .before .before .before .before .before .before .before .put-sum .ensures) in
     room-rest (lastText (row .size)) (c .before .before .before .put-column4 .ensures) (room-rest (from-lost row) summed after-three)
 
 same-length : tie.Need-same-length
@@ -63,11 +68,17 @@ same-length c = search needs
 returns : tie.Need-returns
 unfolding columns
 returns c =
-    let row = c .before .before .before .before .before .before .before .before .before .before .before .before .before .before .before .before .before .before .before .before .before .before .before .before .before .before .args .row in
-    let summed = rw (back w64 (row .sum) (c .before .before .before .before .before .before .before .before .before .before .before .struct-told .given .1 .1 .1 .0 .1)) at (c .before .before .before .before .before .before .before .before .before .before .put-sum .ensures) in
+    let row = c .before .before .before .before .before .before .before .before .before .before .before .before .before .before .before .before
+    .before .before .before .before .before .before .before .before .before .before .args .row in
+    let summed = rw (back w64 (row .sum) (c .before .before .before .before .before .before .before .before .before .before .before .struct-told
+    .given .1 .1 .1 .0 .1)) at (c .before .before .before .before .before .before .before .before .before .before .put-sum .ensures) in
     let last-two = wrote-more _ _ _ _ _ _ _ _ (c .before .before .before .before .before .before .put-column4 .ensures) (c .before .before .put-end .ensures) in
-    let from-three = wrote-more _ _ _ _ _ _ _ _ (c .before .before .before .before .before .before .before .before .before .before .before .before .before .before .before .put-column3 .ensures) (wrote-more _ _ _ _ _ _ _ _ summed last-two) in
-    wrote-more _ _ _ _ _ _ _ _ (c .before .before .before .before .before .before .before .before .before .before .before .before .before .before .before .before .before .before .before .before .before .before .before .put-column .ensures) (wrote-more _ _ _ _ _ _ _ _ (c .before .before .before .before .before .before .before .before .before .before .before .before .before .before .before .before .before .before .before .put-column2 .ensures) from-three)
+    let from-three = wrote-more _ _ _ _ _ _ _ _ (c .before .before .before .before .before .before .before .before .before .before .before .before
+    .before .before .before .put-column3 .ensures) (wrote-more _ _ _ _ _ _ _ _ summed last-two) in
+    wrote-more _ _ _ _ _ _ _ _ (c .before .before .before .before .before .before .before .before .before .before .before .before .before .before
+    .before .before .before .before .before .before .before .before .before .put-column .ensures) (wrote-more _ _ _ _ _ _ _ _ (c .before .before
+    .before .before .before .before .before .before .before .before .before .before .before .before .before .before .before .before .before
+    .put-column2 .ensures) from-three)
 
 pub put-columns-spec : {M : Type 1} → statement M
 put-columns-spec =

@@ -15,14 +15,17 @@ put-byte-requires c κs = room-byte (room-rest (13 ∷ 10 ∷ []) (c .before .be
 
 put-byte-requires-2 : tie.Need-put-byte-requires-2
 put-byte-requires-2 c κs =
-    let after-number = room-rest (13 ∷ 10 ∷ []) (c .before .before .before .before .before .before .before .put-number .ensures) (c .before .before .before .before .before .before .before .before .before .before .pre) in
+    let after-number = room-rest (13 ∷ 10 ∷ []) (c .before .before .before .before .before .before .before .put-number .ensures) (c .before .before
+    .before .before .before .before .before .before .before .before .pre) in
     room-byte (room-rest (10 ∷ []) (c .before .before .before .put-byte .ensures) after-number)
 
 same-length : tie.Need-same-length
 same-length c = search needs
 
 returns : tie.Need-returns
-returns c = wrote-more _ _ _ _ _ _ _ _ (c .before .before .before .before .before .before .before .before .before .before .put-number .ensures) (wrote-more _ _ _ _ _ _ _ _ (c .before .before .before .before .before .before .put-byte .ensures) (c .before .before .put-byte2 .ensures))
+returns c =
+    wrote-more _ _ _ _ _ _ _ _ (c .before .before .before .before .before .before .before .before .before .before .put-number .ensures) (wrote-more _
+    _ _ _ _ _ _ _ (c .before .before .before .before .before .before .put-byte .ensures) (c .before .before .put-byte2 .ensures))
 
 pub put-end-spec : {M : Type 1} → statement M
 put-end-spec = tie.close (tie.spec put-number-requires put-byte-requires put-byte-requires-2 same-length returns)

@@ -43,7 +43,9 @@ same-length c = search needs
 returns : tie.Need-returns
 returns c =
     let number = rw (down-is (c .before .before .before)) at (c .before .before .put-number .ensures) in
-    rw (below-text (c .before .before .before .before .before .before .before .before .before .before .before .before .args .x) (side (c .before .before .before .before .before .before .before .before .before .before) ∙ c .before .before .before .before .before .before .before .before .before .if1 .taken)) (wrote-more _ _ _ _ _ _ _ _ (c .before .before .before .before .before .before .before .put-byte .ensures) number)
+    rw (below-text (c .before .before .before .before .before .before .before .before .before .before .before .before .args .x) (side (c .before
+    .before .before .before .before .before .before .before .before .before) ∙ c .before .before .before .before .before .before .before .before
+    .before .if1 .taken)) (wrote-more _ _ _ _ _ _ _ _ (c .before .before .before .before .before .before .before .put-byte .ensures) number)
 
 -- ---- at zero and above
 
@@ -62,7 +64,10 @@ same-length-2 : tie.Need-same-length-2
 same-length-2 c = search needs
 
 returns-2 : tie.Need-returns-2
-returns-2 c = rw (above-text (c .before .before .before .before .before .before .before .before .args .x) (side (c .before .before .before .before .before .before) ∙ c .before .before .before .before .before .if1 .left)) (rw (up-is (c .before .before .before)) at (c .before .before .put-number2 .ensures))
+returns-2 c =
+    rw (above-text (c .before .before .before .before .before .before .before .before .args .x) (side (c .before .before .before .before .before
+    .before) ∙ c .before .before .before .before .before .if1 .left)) (rw (up-is (c .before .before .before)) at (c .before .before .put-number2
+    .ensures))
 
 pub put-signed-spec : {M : Type 1} → statement M
 put-signed-spec =

@@ -19,7 +19,9 @@ same-length : tie.Need-same-length
 same-length c = search needs
 
 returns : tie.Need-returns
-returns c = wrote-more _ _ _ _ _ _ _ _ (rw (toZ-ofZ (c .before .before .before .before .before .before .before .before .before .fits .x)) at (c .before .before .before .before .before .before .put-signed .ensures)) (c .before .before .put-byte .ensures)
+returns c =
+    wrote-more _ _ _ _ _ _ _ _ (rw (toZ-ofZ (c .before .before .before .before .before .before .before .before .before .fits .x)) at (c .before
+    .before .before .before .before .before .put-signed .ensures)) (c .before .before .put-byte .ensures)
 
 pub put-sum-spec : {M : Type 1} → statement M
 put-sum-spec = tie.close (tie.spec put-signed-requires put-byte-requires same-length returns)
