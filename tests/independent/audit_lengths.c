@@ -3,9 +3,9 @@
 
 #include "auditing.h"
 #include "choice.h"
+#include "misfits.h"
 
 static const size_t cells[] = { 1, 2, 3, 8, 64, 1023, 1024 };
-static const size_t bad_cells[] = { 0, 1025, 1026, 2048, 65536, 65537 };
 
 static const struct report empty, begun = { 2, { 1, 3, 1, 70, 5, 0 } };
 
@@ -33,19 +33,6 @@ static void refused_all(const size_t len[TABLES])
     pair_free(&pair);
 }
 
-/* Longer before shorter: who leaves out the check of a longer table doesn't read outside it. */
-static void one_off(size_t n, enum table_number t)
-{
-    size_t len[TABLES];
-    fitting_lengths(len, n);
-    size_t fitting = len[t];
-    const size_t wrong[] = { fitting + 1, 2 * fitting, fitting + 65536, fitting - 1, fitting / 2, 0 };
-    for (size_t i = 0; i < sizeof wrong / sizeof *wrong; i++) {
-        len[t] = wrong[i];
-        refused_all(len);
-    }
-}
-
 static void differences_off(size_t n)
 {
     const size_t wrong[] = { n + 1, 2 * n, n + 65536, CELLS_MAX + 1, n - 1, n / 2, 0 };
@@ -61,15 +48,7 @@ static void differences_off(size_t n)
 
 void audit_lengths(void)
 {
-    size_t len[TABLES] = { 0 };
-    refused_all(len);
-    for (size_t i = 0; i < sizeof bad_cells / sizeof *bad_cells; i++) {
-        fitting_lengths(len, bad_cells[i]);
-        refused_all(len);
-    }
-    for (size_t i = 0; i < sizeof cells / sizeof *cells; i++) {
+    each_misfit(refused_all);
+    for (size_t i = 0; i < sizeof cells / sizeof *cells; i++)
         differences_off(cells[i]);
-        for (int t = TABLES - 1; t >= 0; t--)
-            one_off(cells[i], t);
-    }
 }

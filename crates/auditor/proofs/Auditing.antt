@@ -5,7 +5,7 @@ use native.Mathlib.Decide.{decLt}
 use mathlib.Core.Bool.{Bool, false, _&&_, cond}
 use mathlib.Core.List.{List}
 use mathlib.Core.Logic.{by-cases}
-use mathlib.Core.Path.{_≡_, sym, ap, _∙_}
+use mathlib.Core.Path.{_≡_, sym, ap, subst, _∙_}
 use lib.Dec.{eqb}
 use lib.ListN.{length}
 use Rattle.rules.specs.declared.audit.Report.{Report}
@@ -45,6 +45,10 @@ audited-whole p h n e =
     by-cases (decLt 1024 (cells h))
     (λ many. size-anyhow p h n (cells h) (fails (fits h) (λ f. omega (arith, fits-sized h f .most))))
     (λ few. ap (λ (k : ℕ). audited p (record { heap = h; room = k })) (e (omega arith)))
+
+-- the table of a number, where the number is n
+pub given-at : (n : ℕ) {r : Reader} {entries ends : List ℕ} {i : ℕ} {table : List ℕ} → Gives r entries ends i table → i ≡ n → Gives r entries ends n table
+given-at n {r} {entries} {ends} {i} {table} g e = subst (λ (k : ℕ). Gives r entries ends k table) e g
 
 pub heap-audited : (r : Reader) (entries ends k f c s o q w : List ℕ) (p : Report) (n m : ℕ) (a : Audited)
     → Gives r entries ends 0 k → Gives r entries ends 1 f → Gives r entries ends 2 c → Gives r entries ends 3 s → Gives r entries ends 4 o → Gives r entries ends 5 q → Gives r entries ends 6 w

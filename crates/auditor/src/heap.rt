@@ -10,7 +10,7 @@ use rules::audit::Audited;
 use rules::audit::Report;
 
 // How many differences the complete heap has, one for each cell. One with more cells than there is room for is SIZE anyhow.
-pub fn cells(reader: Reader, entries: &[u16], ends: &[usize]) -> usize
+pub(crate) fn cells(reader: Reader, entries: &[u16], ends: &[usize]) -> usize
     requires { ⌜ Complete reader (now entries) (now ends) ⌝ }
     ensures { λ r. ⌜ CellsOf reader (now (entries .entry)) (now (ends .entry)) r ⌝ }
 {
@@ -22,7 +22,7 @@ pub fn cells(reader: Reader, entries: &[u16], ends: &[usize]) -> usize
 }
 
 // Audits the complete heap as a report's next.
-pub fn audit_heap(
+pub(crate) fn audit_heap(
     reader: Reader,
     entries: &[u16],
     ends: &[usize],

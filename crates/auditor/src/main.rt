@@ -26,7 +26,7 @@ use lines::print;
 use lines::tell;
 use report::PIECE;
 use report::header;
-use report::totals_line;
+use report::write_totals;
 use rules::CELLS_MAX;
 use rules::audit::Report;
 use rules::audit::Row;
@@ -165,7 +165,7 @@ fn close(
     };
     let report = last.report;
     let totals = report.totals;
-    let written = totals_line(out, totals);
+    let written = write_totals(out, totals);
     write(&out[..written]);
 }
 

@@ -1,14 +1,15 @@
 -- Heaps that fit, and heaps that do not: one with more entries than the largest, one that lacks a table, and one whose tables are empty. Assumes nothing.
-use Prim.Native.Nat.{ℕ, _+_, _*_, _≤_, _<_}
+use Prim.Native.Nat.{ℕ, _+_, _<_}
 use native.Mathlib.Omega.{arith}
-use mathlib.Core.Path.{_≡_, refl, sym, _∙_, ap}
+use mathlib.Core.Path.{_≡_, sym, _∙_, ap}
 use mathlib.Core.List.{List, [], _∷_, _++_}
-use mathlib.Core.Bool.{Bool, true, false, and-eq-true-iff, true≢false}
+use mathlib.Core.Bool.{true, false, true≢false}
 use lib.ListN.{length, getD, List·getD-eq-default}
-use borrow.Author.Tests.{leb-true, eqb-true}
-use Rattle.rules.specs.Lists.{every}
-use Rattle.rules.specs.Heap.{Heap, cells}
+use Rattle.rules.specs.Heap.{Heap}
+use Rattle.rules.specs.Sound.{Sized}
 use Rattle.rules.specs.Check.{fits}
+use Rattle.laws.specs.Lists.Tests.{fails}
+use Rattle.laws.specs.Sound.Reflect.{fits-sized}
 use Rattle.dump.specs.Dumps.{unfit, heapOf}
 use Rattle.dump.specs.Reading.{State, heapGiven, nextLine}
 use Rattle.dump.specs.Holding.{size}
@@ -18,50 +19,9 @@ use Rattle.dump.proofs.Rows.{unfit-long}
 use Rattle.dump.proofs.LineEnds.{Closes, exact, large}
 use Rattle.dump.proofs.Given.{given-spoilt, given-table}
 
--- ---- the tests
-
-abbrev Passed : List Bool → Type 0
-Passed [] = Unit
-Passed (b ∷ l) = (b ≡ true) × Passed l
-
-passed : (l : List Bool) → every l ≡ true → Passed l
-unfolding every
-passed [] e = tt
-passed (b ∷ l) e = let h = and-eq-true-iff b (every l) .0 e in (h .0, passed l (h .1))
-
--- the lengths of the tables of a heap that fits
-record Lengths (h : Heap) : Type 0 where
-  pub some : 1 ≤ cells h
-  pub most : cells h ≤ 1024
-  pub flags : length (h .flags) ≡ cells h
-  pub count : length (h .count) ≡ cells h
-  pub slots : length (h .slots) ≡ 8 * cells h
-  pub roots : length (h .roots) ≡ 64
-  pub queue : length (h .queue) ≡ cells h
-  pub control : length (h .control) ≡ 2
-
-lengths : (h : Heap) → fits h ≡ true → Lengths h
-unfolding fits
-lengths h e =
-    let p = passed _ e in
-    record {
-      some = leb-true 1 (cells h) (p .0);
-      most = leb-true (cells h) 1024 (p .1 .0);
-      flags = eqb-true (length (h .flags)) (cells h) (p .1 .1 .0);
-      count = eqb-true (length (h .count)) (cells h) (p .1 .1 .1 .0);
-      slots = eqb-true (length (h .slots)) (8 * cells h) (p .1 .1 .1 .1 .0);
-      roots = eqb-true (length (h .roots)) 64 (p .1 .1 .1 .1 .1 .0);
-      queue = eqb-true (length (h .queue)) (cells h) (p .1 .1 .1 .1 .1 .1 .0);
-      control = eqb-true (length (h .control)) 2 (p .1 .1 .1 .1 .1 .1 .1 .0);
-    }
-
 -- no heap fits whose lengths can't be
-unfitting : (h : Heap) → (Lengths h → ⊥) → fits h ≡ false
-unfitting h n = go (fits h) refl
-  where
-    go : (x : Bool) → fits h ≡ x → x ≡ false
-    go true e = absurd (n (lengths h e))
-    go false e = refl
+unfitting : (h : Heap) → (Sized h → ⊥) → fits h ≡ false
+unfitting h n = fails (fits h) (λ e. n (fits-sized h e))
 
 -- ---- seven tables with too many entries
 
@@ -90,7 +50,7 @@ short-unfit ts h =
 
 -- every table is given as empty
 spoilt-unfit : (t : State) → t .reader .spoilt ≡ true → fits (heapGiven t) ≡ false
-spoilt-unfit t e = unfitting (heapGiven t) (λ l. omega (arith, l .some, ap length (given-spoilt t 0 e)))
+spoilt-unfit t e = unfitting (heapGiven t) (λ l. omega (arith, l .least, ap length (given-spoilt t 0 e)))
 
 -- ---- what is given, and what is meant
 

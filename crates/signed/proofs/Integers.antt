@@ -2,12 +2,12 @@
 -- Assumes nothing.
 use Prim.Native.Nat.{ℕ, zero, suc, _+_, _^_, _≤_, _<_}
 use native.Mathlib.Omega.{arith}
-use mathlib.Core.Bool.{true, false}
-use mathlib.Core.Path.{_≡_, refl}
+use mathlib.Core.Bool.{Bool, true, false}
+use mathlib.Core.Path.{_≡_, refl, sym, ap, _∙_}
 use lib.IntN.{ℤ, pos, negsuc, _+ℤ_, _-ℤ_, +ℤ-one, +ℤ-idl}
 use lib.Signed.{mag, ltZ}
 use borrow.Author.Tests.{ltb-true}
-use mir.Syntax.{Width}
+use mir.Syntax.{Width, w64}
 use mir.Val.{hbits, SFits, toZ, ofZ}
 use mir.Facts.{toZ-ofZ}
 use Rattle.rules.specs.Audit.{up, down}
@@ -28,6 +28,10 @@ difference-of p q n m e f = rw (p, q, e, f) refl
 pub sides-within : (b : ℕ) (z : ℤ) → up z ≤ b + down z → down z ≤ b + up z → (up z ≤ b) × (down z ≤ b)
 sides-within b (pos n) h l = (omega arith, omega arith)
 sides-within b (negsuc n) h l = (omega arith, omega arith)
+
+-- what the test of a sign found, of the number itself
+pub sign-is : (x : ℤ) (found : Bool) → SFits w64 x → found ≡ ltZ (toZ w64 (ofZ w64 x)) (pos 0) → ltZ x (pos 0) ≡ found
+sign-is x found f e = ap (λ (z : ℤ). ltZ z (pos 0)) (sym (toZ-ofZ f)) ∙ sym e
 
 -- ---- below zero: one more, that turned round, and the two sides
 

@@ -2,14 +2,14 @@
 -- Assumes nothing.
 use borrow.Author.Needs.{needs}
 use native.Mathlib.Omega.{arith}
-use mathlib.Core.Bool.{true, false}
-use mathlib.Core.Path.{_≡_, sym, ap, _∙_}
+use mathlib.Core.Bool.{true}
+use mathlib.Core.Path.{_≡_, ap, _∙_}
 use lib.IntN.{ℤ, pos, natAbs, _+ℤ_, _-ℤ_}
 use lib.Signed.{mag, ltZ}
 use mir.Syntax.{w64}
 use mir.Val.{SFits, toZ, ofZ}
 use mir.Facts.{toZ-ofZ}
-use Rattle.signed.proofs.Integers.{up-within, turned, below-sides, other-sides}
+use Rattle.signed.proofs.Integers.{sign-is, up-within, turned, below-sides, other-sides}
 use Rattle.signed.proofs.down.Statement.{statement}
 use Rattle.signed.proofs.down.Tie as tie
 
@@ -31,27 +31,20 @@ module _ (x : ℤ) (f : SFits w64 x) (h : ltZ x (pos 0) ≡ true) where
   result-is = toZ-ofZ turn-fits ∙ turn-is
 
 -- what the test of the sign says of the parameter
-under : (c : tie.Then1) → ltZ (c .before .before .args .x) (pos 0) ≡ true
-under c =
-    let fits = c .before .before .fits in
-    ap (λ (z : ℤ). ltZ z (pos 0)) (sym (toZ-ofZ (fits .x))) ∙ sym (c .before .negative .ensures) ∙ c .if1 .taken
-
-over : (c : tie.Else1) → ltZ (c .before .before .args .x) (pos 0) ≡ false
-over c =
-    let fits = c .before .before .fits in
-    ap (λ (z : ℤ). ltZ z (pos 0)) (sym (toZ-ofZ (fits .x))) ∙ sym (c .before .negative .ensures) ∙ c .if1 .left
+sign : (c : tie.After-negative) → ltZ (c .before .args .x) (pos 0) ≡ c .negative .result
+sign c = sign-is (c .before .args .x) (c .negative .result) (c .before .fits .x) (c .negative .ensures)
 
 negative-requires : tie.Need-negative-requires
 negative-requires c κs = search needs
 
 add-result : tie.Need-add-result
-add-result c = up-fits _ (c .before .before .fits .x) (under c)
+add-result c = up-fits _ (c .before .before .fits .x) (sign (c .before) ∙ c .if1 .taken)
 
 sub-result : tie.Need-sub-result
-sub-result c = turn-fits _ (c .before .before .fits .x) (under c)
+sub-result c = turn-fits _ (c .before .before .fits .x) (sign (c .before) ∙ c .if1 .taken)
 
 cast-result : tie.Need-cast-result
-cast-result c = rw (result-is _ (c .before .before .fits .x) (under c)) (
+cast-result c = rw (result-is _ (c .before .before .fits .x) (sign (c .before) ∙ c .if1 .taken)) (
   tt,
   record {
     fits =
@@ -61,7 +54,7 @@ cast-result c = rw (result-is _ (c .before .before .fits .x) (under c)) (
 )
 
 add-result-2 : tie.Need-add-result-2
-add-result-2 c = rw (result-is _ (c .before .before .fits .x) (under c)) (record {
+add-result-2 c = rw (result-is _ (c .before .before .fits .x) (sign (c .before) ∙ c .if1 .taken)) (record {
   fits =
       let fits = c .before .before .fits in
       omega (arith, fits .x .sfits);
@@ -71,11 +64,11 @@ returns : tie.Need-returns
 returns c =
     let fits = c .before .before .fits in
     let args = c .before .before .args in
-    let e = ap natAbs (result-is _ (fits .x) (under c)) in
-    (omega (arith, e, below-sides (args .x) (under c) .1), omega (arith, e, fits .x .sfits))
+    let e = ap natAbs (result-is _ (fits .x) (sign (c .before) ∙ c .if1 .taken)) in
+    (omega (arith, e, below-sides (args .x) (sign (c .before) ∙ c .if1 .taken) .1), omega (arith, e, fits .x .sfits))
 
 returns-2 : tie.Need-returns-2
-returns-2 c = (omega (arith, other-sides (c .before .before .args .x) (over c) .2), omega arith)
+returns-2 c = (omega (arith, other-sides (c .before .before .args .x) (sign (c .before) ∙ c .if1 .left) .2), omega arith)
 
 pub down-spec : {M : Type 1} → statement M
 down-spec = tie.close (tie.spec negative-requires add-result sub-result cast-result add-result-2 returns returns-2)

@@ -3,7 +3,7 @@ use borrow.Author.Needs.{needs}
 use native.Mathlib.Omega.{arith}
 use mathlib.Core.Path.{sym}
 use lib.Seq.{length-take-le}
-use Rattle.auditor.proofs.Auditing.{heap-audited}
+use Rattle.auditor.proofs.Auditing.{given-at, heap-audited}
 use Rattle.auditor.proofs.heap.audit_heap.Statement.{statement}
 use Rattle.auditor.proofs.heap.audit_heap.Tie as tie
 
@@ -20,10 +20,13 @@ returns : tie.Need-returns
 returns c =
     let cells = c .before .before .before .before .before .before .before .before .before .before .cells .ensures in
     heap-audited _ _ _ _ _ _ _ _ _ _ _ _ _ _
-    (c .before .before .before .before .before .before .before .before .before .table .ensures) (c .before .before .before .before .before .before
-    .before .before .table2 .ensures) (c .before .before .before .before .before .before .before .table3 .ensures) (c .before .before .before .before
-    .before .before .table4 .ensures) (c .before .before .before .before .before .table5 .ensures) (c .before .before .before .before .table6
-    .ensures) (c .before .before .before .table7 .ensures)
+    (given-at 0 (c .before .before .before .before .before .before .before .before .before .table .ensures) (omega arith))
+    (given-at 1 (c .before .before .before .before .before .before .before .before .table2 .ensures) (omega arith))
+    (given-at 2 (c .before .before .before .before .before .before .before .table3 .ensures) (omega arith))
+    (given-at 3 (c .before .before .before .before .before .before .table4 .ensures) (omega arith))
+    (given-at 4 (c .before .before .before .before .before .table5 .ensures) (omega arith))
+    (given-at 5 (c .before .before .before .before .table6 .ensures) (omega arith))
+    (given-at 6 (c .before .before .before .table7 .ensures) (omega arith))
     cells (length-take-le _ _ (omega (
       arith,
       cells .most,

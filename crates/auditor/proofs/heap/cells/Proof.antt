@@ -1,7 +1,6 @@
 -- `auditor::heap::cells` meets its contract. Assumes nothing.
 use borrow.Author.Needs.{needs}
 use native.Mathlib.Omega.{arith}
-use mathlib.Core.Path.{refl}
 use Rattle.auditor.proofs.Auditing.{cells-of}
 use Rattle.auditor.proofs.heap.cells.Statement.{statement}
 use Rattle.auditor.proofs.heap.cells.Tie as tie
@@ -10,7 +9,7 @@ table-requires : tie.Need-table-requires
 table-requires c κs = search needs
 
 returns : tie.Need-returns
-returns c = cells-of _ _ _ _ _ (c .before .table .ensures) (c .if1 .taken) (λ m. refl)
+returns c = cells-of _ _ _ _ _ (c .before .table .ensures) (omega (arith, c .if1 .taken)) (λ m. omega arith)
 
 returns-2 : tie.Need-returns-2
 returns-2 c = cells-of _ _ _ _ _ (c .before .table .ensures) (omega arith) (λ m. absurd (omega (arith, c .if1 .left)))

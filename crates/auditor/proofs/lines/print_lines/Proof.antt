@@ -17,9 +17,6 @@ abbrev μ-loop : tie.MeasureT-loop
 loop-holds : tie.Need-loop-holds Inv-loop μ-loop
 loop-holds c = refl
 
-write-piece-requires : tie.Need-write-piece-requires Inv-loop μ-loop
-write-piece-requires c κs = (c .before .loop-test .taken, omega (arith, c .before .before .loop .inv, c .before .before .before .before .pre))
-
 slice-reshare-prefix-write : tie.Need-slice-reshare-prefix-write Inv-loop μ-loop
 slice-reshare-prefix-write c = c .before .before .write-piece .ensures .fits
 
@@ -38,7 +35,17 @@ returns c = search needs
 loop-less : tie.Need-loop-less Inv-loop μ-loop
 loop-less c =
     let piece = c .before .before .before .before .before .write-piece .ensures in
-    omega (arith, piece .further, piece .most)
+    let left = c .before .before .before .before .before .before .before .loop-test .taken in
+    omega (
+      arith,
+      piece .further (omega (
+        arith,
+        c .before .before .before .before .before .before .before .before .loop .inv,
+        c .before .before
+            .before .before .before .before .before .before .before .before .pre,
+      )) left,
+      piece .most left,
+    )
 
 loop-again : tie.Need-loop-again Inv-loop μ-loop
 loop-again c = c .before .before .before .before .before .write-piece .kept .0 ∙ c .before .before .before .before .before .before .before .before .loop .inv
@@ -56,7 +63,7 @@ print-lines-spec =
     Inv-loop
     μ-loop
     loop-holds
-    write-piece-requires
+    (λ c κs. tt)
     slice-reshare-prefix-write
     slice-aggregate-write
     write-requires

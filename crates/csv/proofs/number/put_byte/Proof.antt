@@ -1,6 +1,7 @@
 -- `csv::number::put_byte` meets its contract. Assumes nothing.
 use Rattle.csv.proofs.Written.{wrote-byte}
 use borrow.Author.Needs.{needs}
+use native.Mathlib.Omega.{arith}
 use Rattle.csv.proofs.number.put_byte.Statement.{statement}
 use Rattle.csv.proofs.number.put_byte.Tie as tie
 
@@ -14,7 +15,7 @@ same-length : tie.Need-same-length
 same-length c = search needs
 
 returns : tie.Need-returns
-returns c = wrote-byte _ _ _
+returns c = wrote-byte _ _ _ _ _ (omega arith) (omega arith)
 
 pub put-byte-spec : {M : Type 1} → statement M
 put-byte-spec = tie.close (tie.spec slice-write-out add-result same-length returns)

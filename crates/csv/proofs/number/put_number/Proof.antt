@@ -18,7 +18,7 @@ returns : tie.Need-returns
 returns c = rw (one-digit (c .before .before .before .before .before .before .args .n) (c .before .before .before .before .if1 .taken)) (c .before .before .put-last-digit .ensures)
 
 put-two-digits-requires : tie.Need-put-two-digits-requires
-put-two-digits-requires c κs = search needs
+put-two-digits-requires c κs = (omega (arith, c .before .before .if1 .left), omega (arith, c .before .if2 .taken), c .before .before .before .before .pre)
 
 same-length-2 : tie.Need-same-length-2
 same-length-2 c = search needs
@@ -27,7 +27,7 @@ returns-2 : tie.Need-returns-2
 returns-2 c = search needs
 
 put-three-digits-requires : tie.Need-put-three-digits-requires
-put-three-digits-requires c κs = search needs
+put-three-digits-requires c κs = (omega (arith, c .before .before .if2 .left), omega (arith, c .before .if3 .taken), c .before .before .before .before .before .pre)
 
 same-length-3 : tie.Need-same-length-3
 same-length-3 c = search needs
@@ -36,7 +36,7 @@ returns-3 : tie.Need-returns-3
 returns-3 c = search needs
 
 put-digits-requires : tie.Need-put-digits-requires
-put-digits-requires c κs = search needs
+put-digits-requires c κs = (omega (arith, c .before .if3 .left), c .before .before .before .before .before .pre)
 
 same-length-4 : tie.Need-same-length-4
 same-length-4 c = search needs

@@ -1,10 +1,10 @@
 -- `report::cell::put_side` meets its contract: three ways out, by the side of zero. Assumes nothing.
 use borrow.Author.Needs.{needs}
-use mathlib.Core.Path.{_≡_, sym, ap, _∙_}
-use lib.IntN.{ℤ, pos}
+use mathlib.Core.Path.{_≡_, _∙_}
+use lib.IntN.{pos}
 use lib.Signed.{ltZ}
 use mir.Syntax.{w64}
-use mir.Facts.{toZ-ofZ}
+use Rattle.signed.proofs.Integers.{sign-is}
 use Rattle.report.proofs.Cells.{side-below, side-at, side-above}
 use Rattle.report.proofs.cell.put_side.Statement.{statement}
 use Rattle.report.proofs.cell.put_side.Tie as tie
@@ -14,7 +14,7 @@ negative-requires c κs = search needs
 
 -- whether the number is below zero
 side : (c : tie.After-negative) → ltZ (c .before .before .args .x) (pos 0) ≡ c .negative .result
-side c = ap (λ (z : ℤ). ltZ z (pos 0)) (sym (toZ-ofZ (c .before .before .fits .x))) ∙ sym (c .negative .ensures)
+side c = sign-is (c .before .before .args .x) (c .negative .result) (c .before .before .fits .x) (c .negative .ensures)
 
 put-six-requires : tie.Need-put-six-requires
 put-six-requires c κs = search needs

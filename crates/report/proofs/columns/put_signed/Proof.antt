@@ -1,12 +1,13 @@
 -- `report::columns::put_signed` meets its contract, on either side of zero. Assumes nothing.
 use borrow.Author.Needs.{needs}
-use mathlib.Core.Path.{_≡_, sym, ap, _∙_}
-use lib.IntN.{ℤ, pos}
+use mathlib.Core.Path.{_≡_, ap, _∙_}
+use lib.IntN.{pos}
 use lib.Signed.{ltZ}
 use mir.Facts.{toZ-ofZ}
 use Rattle.csv.specs.Decimal.{decimalOf}
 use Rattle.csv.proofs.Written.{wrote-more}
 use Rattle.rules.specs.Audit.{up, down}
+use Rattle.signed.proofs.Integers.{sign-is}
 use Rattle.report.proofs.Texts.{room-rest, room-byte, below-text, above-text}
 use Rattle.report.proofs.columns.put_signed.Statement.{statement}
 use Rattle.report.proofs.columns.put_signed.Tie as tie
@@ -16,7 +17,7 @@ negative-requires c κs = search needs
 
 -- whether the number is below zero
 side : (c : tie.After-negative) → ltZ (c .before .before .args .x) (pos 0) ≡ c .negative .result
-side c = ap (λ (z : ℤ). ltZ z (pos 0)) (sym (toZ-ofZ (c .before .before .fits .x))) ∙ sym (c .negative .ensures)
+side c = sign-is (c .before .before .args .x) (c .negative .result) (c .before .before .fits .x) (c .negative .ensures)
 
 -- ---- below zero
 

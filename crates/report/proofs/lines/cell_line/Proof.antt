@@ -1,4 +1,4 @@
--- `report::cell_line` meets its contract: two numbers, and the row of the cell. Assumes nothing.
+-- `report::lines::cell_line` meets its contract: two numbers, and the row of the cell. Assumes nothing.
 use Prim.Native.Nat.{ℕ, _≤_}
 use borrow.Author.Needs.{needs}
 use mathlib.Core.List.{List, _++_}
@@ -15,8 +15,8 @@ use Rattle.signed.proofs.Integers.{back}
 use Rattle.report.specs.Room.{Room}
 use Rattle.report.proofs.Texts.{room-first, room-rest}
 use Rattle.report.proofs.Widths.{cell-width}
-use Rattle.report.proofs.cell_line.Statement.{statement}
-use Rattle.report.proofs.cell_line.Tie as tie
+use Rattle.report.proofs.lines.cell_line.Statement.{statement}
+use Rattle.report.proofs.lines.cell_line.Tie as tie
 
 wide-is : (c : tie.After-wide) → toZ w64 (ofZ w64 (c .wide .result)) ≡ c .before .before .before .before .before .before .before .before .before .before .before .args .difference
 wide-is c =

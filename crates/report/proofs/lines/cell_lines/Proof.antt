@@ -1,4 +1,4 @@
--- `report::cell_lines` meets its contract: a line for each cell, one after another. Assumes nothing.
+-- `report::lines::cell_lines` meets its contract: a line for each cell, one after another. Assumes nothing.
 use Prim.Native.Nat.{_-_}
 use borrow.Author.Needs.{needs}
 use mir.Syntax.{w32}
@@ -8,8 +8,8 @@ use lib.ListN.{getD}
 use Rattle.signed.proofs.Integers.{back}
 use Rattle.report.specs.Room.{entry}
 use Rattle.report.proofs.Writing.{Writing, begin, turn, done, same-room}
-use Rattle.report.proofs.cell_lines.Statement.{statement}
-use Rattle.report.proofs.cell_lines.Tie as tie
+use Rattle.report.proofs.lines.cell_lines.Statement.{statement}
+use Rattle.report.proofs.lines.cell_lines.Tie as tie
 
 abbrev Inv-loop : tie.InvT-loop
 Inv-loop out₀ heap differences first end at₀ c₀ out at c = Writing out₀ heap (entry differences) first end out at c
