@@ -1,9 +1,10 @@
 // The lines of a report, put into a buffer one after another. The room is required, not checked: a line that is cut short would be a wrong line.
 ghost use Prim.Native.Nat.{_+_, _*_, _-_, _≤_};
+ghost use mathlib.Core.List.{[], _∷_, _++_};
 ghost use lib.ListN.{length};
 ghost use Rattle.csv.specs.Written.{Wrote};
-ghost use Rattle.rules.specs.AuditReport.{cellLine, heapLine, totalsLine, cellLines};
-ghost use Rattle.report.specs.Room.{entry};
+ghost use Rattle.rules.specs.AuditReport.{columns, cellLine, heapLine, totalsLine, cellLines};
+ghost use Rattle.report.specs.Room.{Room, entry};
 use crate::cell::put_cell;
 use crate::columns::put_column;
 use crate::columns::put_columns;
@@ -44,6 +45,15 @@ pub fn cell_lines(out: &mut [u8], heap: u64, differences: &[i32], first: usize, 
     at
 }
 
+// An empty cell, and the row.
+fn put_row(out: &mut [u8], at: usize, row: Row) -> usize
+    requires { ⌜ Room (now out) at ((44 ∷ []) ++ columns row) ⌝ }
+    ensures { λ r. ⌜ Wrote (now (out .entry)) at ((44 ∷ []) ++ columns row) (now (out .exit)) r ⌝ }
+{
+    let a = put_byte(out, at, COMMA);
+    put_columns(out, a, row)
+}
+
 // A heap's own line: "cell empty".
 pub fn heap_line(out: &mut [u8], heap: u64, row: Row) -> usize
     requires { ⌜ 149 ≤ length (now out) ⌝ }
@@ -51,8 +61,7 @@ pub fn heap_line(out: &mut [u8], heap: u64, row: Row) -> usize
     ensures { λ r. ⌜ r ≤ 149 ⌝ }
 {
     let a = put_column(out, 0, heap);
-    let b = put_byte(out, a, COMMA);
-    put_columns(out, b, row)
+    put_row(out, a, row)
 }
 
 // The last line: "the totals, heap empty too".
@@ -62,6 +71,5 @@ pub fn totals_line(out: &mut [u8], row: Row) -> usize
     ensures { λ r. ⌜ r ≤ 129 ⌝ }
 {
     let a = put_byte(out, 0, COMMA);
-    let b = put_byte(out, a, COMMA);
-    put_columns(out, b, row)
+    put_row(out, a, row)
 }

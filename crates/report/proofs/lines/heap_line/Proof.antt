@@ -8,7 +8,7 @@ use Rattle.csv.proofs.Written.{wrote-more}
 use Rattle.rules.specs.Audit.{Holds}
 use Rattle.rules.specs.AuditReport.{columns, heapLine}
 use Rattle.report.specs.Room.{Room}
-use Rattle.report.proofs.Texts.{room-first, room-rest, room-byte}
+use Rattle.report.proofs.Texts.{room-first, room-rest}
 use Rattle.report.proofs.Widths.{heap-width}
 use Rattle.report.proofs.lines.heap_line.Statement.{statement}
 use Rattle.report.proofs.lines.heap_line.Tie as tie
@@ -36,18 +36,11 @@ put-column-requires : tie.Need-put-column-requires
 unfolding heapLine
 put-column-requires c κs = room-first ((44 ∷ []) ++ columns (c .before .before .args .row)) (room (c .before .before))
 
-put-byte-requires : tie.Need-put-byte-requires
+put-row-requires : tie.Need-put-row-requires
 unfolding heapLine
-put-byte-requires c κs =
+put-row-requires c κs =
     let entry = c .before .before .before .before .before .before in
-    room-byte (room-rest ((44 ∷ []) ++ columns (entry .args .row)) (c .before .before .before .put-column .ensures) (room entry))
-
-put-columns-requires : tie.Need-put-columns-requires
-unfolding heapLine
-put-columns-requires c κs =
-    let entry = c .before .before .before .before .before .before .before .before .before .before in
-    let row = columns (entry .args .row) in
-    room-rest row (c .before .before .before .put-byte .ensures) (room-rest ((44 ∷ []) ++ row) (c .before .before .before .before .before .before .before .put-column .ensures) (room entry))
+    room-rest ((44 ∷ []) ++ columns (entry .args .row)) (c .before .before .before .put-column .ensures) (room entry)
 
 same-length : tie.Need-same-length
 same-length c = search needs
@@ -55,10 +48,8 @@ same-length c = search needs
 returns : tie.Need-returns
 unfolding heapLine
 returns c =
-    let entry = c .before .before .before .before .before .before .before .before .before .before .before .before .before in
-    let line = wrote-more _ _ _ _ _ _ _ _ (c .before .before .before .before .before .before .before .before .before .before .put-column .ensures)
-    (wrote-more _ _ _ _ _ _ _ _ (c .before .before .before .before .before .before .put-byte .ensures) (c .before .before .put-columns .ensures)) in
-    (line, omega (arith, line .end, width entry))
+    let line = wrote-more _ _ _ _ _ _ _ _ (c .before .before .before .before .before .before .put-column .ensures) (c .before .before .put-row .ensures) in
+    (line, omega (arith, line .end, width (c .before .before .before .before .before .before .before .before .before)))
 
 pub heap-line-spec : {M : Type 1} → statement M
-heap-line-spec = tie.close (tie.spec put-column-requires put-byte-requires put-columns-requires same-length returns)
+heap-line-spec = tie.close (tie.spec put-column-requires put-row-requires same-length returns)

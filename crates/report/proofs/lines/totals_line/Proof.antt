@@ -8,7 +8,7 @@ use Rattle.csv.proofs.Written.{wrote-more}
 use Rattle.rules.specs.Audit.{Holds}
 use Rattle.rules.specs.AuditReport.{columns, totalsLine}
 use Rattle.report.specs.Room.{Room}
-use Rattle.report.proofs.Texts.{room-rest, room-byte}
+use Rattle.report.proofs.Texts.{room-rest}
 use Rattle.report.proofs.Widths.{totals-width}
 use Rattle.report.proofs.lines.totals_line.Statement.{statement}
 use Rattle.report.proofs.lines.totals_line.Tie as tie
@@ -35,18 +35,11 @@ room c = record { enough = omega (arith, c .pre, width c) }
 put-byte-requires : tie.Need-put-byte-requires
 put-byte-requires c κs = search needs
 
-put-byte-requires-2 : tie.Need-put-byte-requires-2
+put-row-requires : tie.Need-put-row-requires
 unfolding totalsLine
-put-byte-requires-2 c κs =
+put-row-requires c κs =
     let entry = c .before .before .before .before .before .before in
-    room-byte (room-rest ((44 ∷ []) ++ columns (entry .args .row)) (c .before .before .before .put-byte .ensures) (room entry))
-
-put-columns-requires : tie.Need-put-columns-requires
-unfolding totalsLine
-put-columns-requires c κs =
-    let entry = c .before .before .before .before .before .before .before .before .before .before in
-    let row = columns (entry .args .row) in
-    room-rest row (c .before .before .before .put-byte2 .ensures) (room-rest ((44 ∷ []) ++ row) (c .before .before .before .before .before .before .before .put-byte .ensures) (room entry))
+    room-rest ((44 ∷ []) ++ columns (entry .args .row)) (c .before .before .before .put-byte .ensures) (room entry)
 
 same-length : tie.Need-same-length
 same-length c = search needs
@@ -54,10 +47,8 @@ same-length c = search needs
 returns : tie.Need-returns
 unfolding totalsLine
 returns c =
-    let entry = c .before .before .before .before .before .before .before .before .before .before .before .before .before in
-    let line = wrote-more _ _ _ _ _ _ _ _ (c .before .before .before .before .before .before .before .before .before .before .put-byte .ensures)
-    (wrote-more _ _ _ _ _ _ _ _ (c .before .before .before .before .before .before .put-byte2 .ensures) (c .before .before .put-columns .ensures)) in
-    (line, omega (arith, line .end, width entry))
+    let line = wrote-more _ _ _ _ _ _ _ _ (c .before .before .before .before .before .before .put-byte .ensures) (c .before .before .put-row .ensures) in
+    (line, omega (arith, line .end, width (c .before .before .before .before .before .before .before .before .before)))
 
 pub totals-line-spec : {M : Type 1} → statement M
-totals-line-spec = tie.close (tie.spec put-byte-requires put-byte-requires-2 put-columns-requires same-length returns)
+totals-line-spec = tie.close (tie.spec put-byte-requires put-row-requires same-length returns)
