@@ -6,13 +6,20 @@
 enum { DEPTH = 16 };
 enum { UNMARKED, MARKED, NOTED };
 
-/* A heap whose lengths have been checked. */
+/* A heap whose lengths have been checked, and the room for the list of freed cells. */
 typedef struct {
-    uint16_t *kind, *flags, *count, *slots, *roots, *queue, *control;
+    uint16_t *kind, *flags, *count, *slots, *roots, *queue, *control, *freed;
     size_t n;
 } heap;
 
 static vek_answer refuse(uint16_t why) { return (vek_answer){why, 0, 0, 0}; }
+
+/* The list has so many freed cells; behind them it becomes 0. */
+static inline vek_answer done(const heap *h, size_t freed, unsigned queued, size_t cell)
+{
+    memset(h->freed + freed, 0, (h->n - freed) * sizeof *h->freed);
+    return (vek_answer){0, freed, queued, cell};
+}
 
 int c_fits(VEK_TABLES)
 {
@@ -88,8 +95,9 @@ static int sound(const heap *h)
 
 /* ---- taking off */
 
+/* The lent list of freed cells is the work list: cells are freed in the order in which they join it. */
 typedef struct {
-    uint16_t work[VEK_CELLS_MAX];
+    uint16_t *work;
     size_t tail;
 } worklist;
 
@@ -108,7 +116,7 @@ static void decref(heap *h, worklist *w, unsigned r)
         return;
     }
     h->count[c] = 0;
-    w->work[w->tail++] = c;
+    w->work[w->tail++] = r;
 }
 
 static inline void empty_slots(uint16_t *s) { memset(s, 0, VEK_SLOTS * sizeof *s); }
@@ -121,21 +129,20 @@ static inline void zero_entries(heap *h, size_t c)
     h->count[c] = 0;
 }
 
-/* A full take-off; the number of cells freed. */
-static unsigned release(heap *h, unsigned r)
+/* A full take-off, by a call that has listed so many freed cells; how many it has listed then. */
+static size_t release(heap *h, size_t listed, unsigned r)
 {
     if (!r)
-        return 0;
+        return listed;
     if (h->count[r - 1] > 1) {
         h->count[r - 1]--;
-        return 0;
+        return listed;
     }
-    worklist w;
-    w.tail = 0;
+    worklist w = {h->freed, listed};
     decref(h, &w, r);
-    size_t head = 0;
+    size_t head = listed;
     for (; head < w.tail; head++) {
-        size_t c = w.work[head];
+        size_t c = w.work[head] - 1u;
         uint16_t *s = h->slots + VEK_SLOTS * c;
         if (h->kind[c] == VEK_OBJECT) {
             for (size_t i = 0; i < VEK_SLOTS; i++)
@@ -153,8 +160,8 @@ static vek_answer write_ref(heap *h, uint16_t *place, unsigned r)
     if (r)
         h->count[r - 1]++;
     *place = r;
-    unsigned freed = release(h, old);
-    return (vek_answer){0, freed, h->control[0] - queued, 0};
+    size_t freed = release(h, 0, old);
+    return done(h, freed, h->control[0] - queued, 0);
 }
 
 /* ---- collecting */
@@ -219,35 +226,38 @@ static vek_answer collect(heap *h)
                 if (s[i])
                     h->count[s[i] - 1]--;
         }
-    unsigned freed = 0;
+    size_t freed = 0;
     for (size_t c = 0; c < n; c++)
         if (marks[c] == UNMARKED && h->kind[c]) {
             if (h->kind[c] == VEK_OBJECT)
                 empty_slots(h->slots + VEK_SLOTS * c);
             zero_entries(h, c);
-            freed++;
+            h->freed[freed++] = c + 1;
         }
     if (old == 0)
         for (size_t c = 0; c < n; c++)
             if (marks[c] != UNMARKED && h->flags[c] == 3)
                 h->flags[c] = 1;
-    return (vek_answer){0, freed, all - old, 0};
+    return done(h, freed, all - old, 0);
 }
 
 /* ---- the calls */
 
-#define HEAP                                                                                         \
-    heap h = {kind, flags, count, slots, roots, queue, control, kind_len};                           \
-    if (!c_fits(kind, kind_len, flags, flags_len, count, count_len, slots, slots_len, roots,           \
-              roots_len, queue, queue_len, control, control_len))                                    \
-        return refuse(VEK_SIZE);
+#define FITS                                                                                         \
+    c_fits(kind, kind_len, flags, flags_len, count, count_len, slots, slots_len, roots, roots_len,   \
+           queue, queue_len, control, control_len)
 
 #define SOUND_HEAP                                                                                   \
-    HEAP if (!sound(&h)) return refuse(VEK_DAMAGED);
+    heap h = {kind, flags, count, slots, roots, queue, control, freed, kind_len};                    \
+    if (!FITS || freed_len != kind_len)                                                              \
+        return refuse(VEK_SIZE);                                                                     \
+    if (!sound(&h))                                                                                  \
+        return refuse(VEK_DAMAGED);
 
 vek_answer c_fresh(VEK_TABLES)
 {
-    HEAP
+    if (!FITS)
+        return refuse(VEK_SIZE);
     memset(kind, 0, kind_len * sizeof *kind);
     memset(flags, 0, flags_len * sizeof *flags);
     memset(count, 0, count_len * sizeof *count);
@@ -255,11 +265,10 @@ vek_answer c_fresh(VEK_TABLES)
     memset(roots, 0, roots_len * sizeof *roots);
     memset(queue, 0, queue_len * sizeof *queue);
     memset(control, 0, control_len * sizeof *control);
-    (void)h;
-    return refuse(0);
+    return (vek_answer){0, 0, 0, 0};
 }
 
-vek_answer c_new(VEK_TABLES, size_t root, size_t new_kind, size_t finalizer)
+vek_answer c_new(VEK_TABLES, VEK_FREED, size_t root, size_t new_kind, size_t finalizer)
 {
     SOUND_HEAP
     if (root >= VEK_ROOTS || new_kind < 1 || new_kind > 3 || finalizer > 1 || (finalizer == 1 && new_kind != 1))
@@ -275,10 +284,10 @@ vek_answer c_new(VEK_TABLES, size_t root, size_t new_kind, size_t finalizer)
     flags[c] = finalizer;
     count[c] = 1;
     roots[root] = c + 1;
-    return (vek_answer){0, 0, 0, c};
+    return done(&h, 0, 0, c);
 }
 
-vek_answer c_clear(VEK_TABLES, size_t root)
+vek_answer c_clear(VEK_TABLES, VEK_FREED, size_t root)
 {
     SOUND_HEAP
     if (root >= VEK_ROOTS)
@@ -286,7 +295,7 @@ vek_answer c_clear(VEK_TABLES, size_t root)
     return write_ref(&h, roots + root, 0);
 }
 
-vek_answer c_copy(VEK_TABLES, size_t to, size_t from)
+vek_answer c_copy(VEK_TABLES, VEK_FREED, size_t to, size_t from)
 {
     SOUND_HEAP
     if (to >= VEK_ROOTS || from >= VEK_ROOTS)
@@ -294,7 +303,7 @@ vek_answer c_copy(VEK_TABLES, size_t to, size_t from)
     return write_ref(&h, roots + to, roots[from]);
 }
 
-vek_answer c_load(VEK_TABLES, size_t to, size_t object, size_t slot)
+vek_answer c_load(VEK_TABLES, VEK_FREED, size_t to, size_t object, size_t slot)
 {
     SOUND_HEAP
     if (to >= VEK_ROOTS || object >= VEK_ROOTS || slot >= VEK_SLOTS)
@@ -306,7 +315,7 @@ vek_answer c_load(VEK_TABLES, size_t to, size_t object, size_t slot)
     return write_ref(&h, roots + to, slots[VEK_SLOTS * (roots[object] - 1) + slot]);
 }
 
-vek_answer c_store(VEK_TABLES, size_t object, size_t slot, size_t from)
+vek_answer c_store(VEK_TABLES, VEK_FREED, size_t object, size_t slot, size_t from)
 {
     SOUND_HEAP
     if (object >= VEK_ROOTS || slot >= VEK_SLOTS || from >= VEK_ROOTS)
@@ -318,13 +327,13 @@ vek_answer c_store(VEK_TABLES, size_t object, size_t slot, size_t from)
     return write_ref(&h, slots + VEK_SLOTS * (roots[object] - 1) + slot, roots[from]);
 }
 
-vek_answer c_collect(VEK_TABLES)
+vek_answer c_collect(VEK_TABLES, VEK_FREED)
 {
     SOUND_HEAP
     return collect(&h);
 }
 
-vek_answer c_start(VEK_TABLES, size_t root)
+vek_answer c_start(VEK_TABLES, VEK_FREED, size_t root)
 {
     SOUND_HEAP
     if (root >= VEK_ROOTS)
@@ -338,10 +347,10 @@ vek_answer c_start(VEK_TABLES, size_t root)
     count[queue[0] - 1]++;
     roots[root] = queue[0];
     control[1] = root + 1;
-    return refuse(0);
+    return done(&h, 0, 0, 0);
 }
 
-vek_answer c_finish(VEK_TABLES)
+vek_answer c_finish(VEK_TABLES, VEK_FREED)
 {
     SOUND_HEAP
     if (!control[1])
@@ -355,7 +364,6 @@ vek_answer c_finish(VEK_TABLES)
     flags[head - 1] = 3;
     roots[root] = 0;
     unsigned queued = control[0];
-    unsigned freed = release(&h, old);
-    freed += release(&h, head);
-    return (vek_answer){0, freed, control[0] - queued, 0};
+    size_t listed = release(&h, release(&h, 0, old), head);
+    return done(&h, listed, control[0] - queued, 0);
 }

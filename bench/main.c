@@ -1,4 +1,5 @@
-/* Runs one case of the benchmark on one of the two heaps; callgrind counts what happens inside `measured` and its like. */
+/* Runs one case of the benchmark on one of the two heaps, and prints the number of calls, what the last one answered, and its
+   list; callgrind counts what happens inside `measured` and its like. */
 #include "heap.h"
 
 #include <stdio.h>
@@ -20,26 +21,26 @@ static vek_answer call(int op, size_t a, size_t b, size_t c)
 {
     if (!proved) {
         switch (op) {
-        case 1: return c_new(VEK_LEND(heap), a, b, c);
-        case 2: return c_clear(VEK_LEND(heap), a);
-        case 3: return c_copy(VEK_LEND(heap), a, b);
-        case 4: return c_load(VEK_LEND(heap), a, b, c);
-        case 5: return c_store(VEK_LEND(heap), a, b, c);
-        case 6: return c_collect(VEK_LEND(heap));
-        case 7: return c_start(VEK_LEND(heap), a);
-        case 8: return c_finish(VEK_LEND(heap));
+        case 1: return c_new(VEK_LEND_ALL(heap), a, b, c);
+        case 2: return c_clear(VEK_LEND_ALL(heap), a);
+        case 3: return c_copy(VEK_LEND_ALL(heap), a, b);
+        case 4: return c_load(VEK_LEND_ALL(heap), a, b, c);
+        case 5: return c_store(VEK_LEND_ALL(heap), a, b, c);
+        case 6: return c_collect(VEK_LEND_ALL(heap));
+        case 7: return c_start(VEK_LEND_ALL(heap), a);
+        case 8: return c_finish(VEK_LEND_ALL(heap));
         default: return c_fresh(VEK_LEND(heap));
         }
     }
     switch (op) {
-    case 1: return vek_new(VEK_LEND(heap), a, b, c);
-    case 2: return vek_clear(VEK_LEND(heap), a);
-    case 3: return vek_copy(VEK_LEND(heap), a, b);
-    case 4: return vek_load(VEK_LEND(heap), a, b, c);
-    case 5: return vek_store(VEK_LEND(heap), a, b, c);
-    case 6: return vek_collect(VEK_LEND(heap));
-    case 7: return vek_start(VEK_LEND(heap), a);
-    case 8: return vek_finish(VEK_LEND(heap));
+    case 1: return vek_new(VEK_LEND_ALL(heap), a, b, c);
+    case 2: return vek_clear(VEK_LEND_ALL(heap), a);
+    case 3: return vek_copy(VEK_LEND_ALL(heap), a, b);
+    case 4: return vek_load(VEK_LEND_ALL(heap), a, b, c);
+    case 5: return vek_store(VEK_LEND_ALL(heap), a, b, c);
+    case 6: return vek_collect(VEK_LEND_ALL(heap));
+    case 7: return vek_start(VEK_LEND_ALL(heap), a);
+    case 8: return vek_finish(VEK_LEND_ALL(heap));
     default: return vek_fresh(VEK_LEND(heap));
     }
 }
@@ -183,6 +184,15 @@ static void write_tables(void)
     write_table(VEK_LEND_TABLE(heap.control));
 }
 
+/* The list of freed cells as one number, in which their order counts. */
+static unsigned digest(void)
+{
+    unsigned all = 0;
+    for (size_t i = 0; i < N; i++)
+        all = all * 31 + heap.freed[i];
+    return all;
+}
+
 /* What becomes of a call of the morning: it is made, or written as a line for the program. */
 typedef void action(int op, size_t a, size_t b, size_t c);
 
@@ -262,6 +272,6 @@ int main(int argc, char **argv)
         fprintf(stderr, "%s: refused %u\n", name, a.refused);
         return 1;
     }
-    printf("%u %u %u\n", calls, a.freed, a.queued);
+    printf("%u %u %u %u\n", calls, a.freed, a.queued, digest());
     return 0;
 }

@@ -29,9 +29,9 @@ static void write_heap(FILE *to, VEK_TABLES)
 int main(void)
 {
     vek_fresh(VEK_LEND(shop));
-    vek_new(VEK_LEND(shop), 0, VEK_OBJECT, 0);
-    vek_new(VEK_LEND(shop), 1, VEK_STRING, 0);
-    vek_store(VEK_LEND(shop), 0, 3, 1);
+    vek_new(VEK_LEND_ALL(shop), 0, VEK_OBJECT, 0);
+    vek_new(VEK_LEND_ALL(shop), 1, VEK_STRING, 0);
+    vek_store(VEK_LEND_ALL(shop), 0, 3, 1);
     write_heap(stdout, VEK_LEND(shop));
 
     /* What an audit is for: a count too low, and a reference to a cell that is free. */

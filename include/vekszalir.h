@@ -33,6 +33,12 @@
  * the call and are free after it, `queued` the number of cells that the call put into the queue, and `cell`
  * is the new cell of vek_new; vek_fresh answers 0 for all of these. Of several reasons for a refusal the
  * lowest number is given.
+ *
+ * Every call but vek_fresh also says which cells it freed, so that you can release what you keep beside them. You
+ * lend it one more table of N entries, `freed`, which is no part of the heap: what stands there matters to nothing.
+ * After a call that is done its first `freed` entries are references to the freed cells, each once, in the order in
+ * which they were freed, and the rest are 0. vek_collect frees in order of cell number, a cascade first what was let
+ * go of first. After a refusal the table is as before.
  */
 #ifndef VEKSZALIR_H
 #define VEKSZALIR_H
@@ -44,7 +50,7 @@
 extern "C" {
 #endif
 
-#define VEK_VERSION "1.3.0"
+#define VEK_VERSION "2.0.0"
 
 /* Limits. */
 #define VEK_CELLS_MAX 1024
@@ -65,7 +71,7 @@ extern "C" {
 
 /* Why a call was refused. */
 #define VEK_DONE 0
-#define VEK_SIZE 1     /* N is not 1 to 1,024, or the tables' lengths don't fit N */
+#define VEK_SIZE 1     /* N is not 1 to 1,024, or the tables' lengths don't fit N; VEK_FREED has to have N entries */
 #define VEK_DAMAGED 2  /* the heap is not sound */
 #define VEK_NUMBER 3   /* a root above 63, a slot above 7, a bad kind or a bad wish for a finalizer */
 #define VEK_EMPTY 4    /* the root that should hold an object is empty */
@@ -105,61 +111,68 @@ static inline const char *vek_refusal_name(uint16_t refused)
     }
 }
 
-/* Room for a heap of n cells, and the words that lend its tables to a call:
+/* Room for a heap of n cells and its list of freed cells, and the words that lend its tables to a call, without the
+   list and with it:
 
        static VEK_STORAGE(256) shop;
        vek_answer a = vek_fresh(VEK_LEND(shop));
+       a = vek_clear(VEK_LEND_ALL(shop), 0);
+       for (size_t i = 0; i < a.freed; i++)
+           (the cell shop.freed[i] - 1 went)
 
    Tables that lie elsewhere are lent one by one, each with its length. */
 #define VEK_STORAGE(n)                                                                               \
     struct {                                                                                         \
         uint16_t kind[n], flags[n], count[n], slots[VEK_SLOTS_LEN(n)], roots[VEK_ROOTS], queue[n],   \
-            control[VEK_CONTROL];                                                                    \
+            control[VEK_CONTROL], freed[n];                                                          \
     }
 #define VEK_LEND_TABLE(table) (table), sizeof(table) / sizeof((table)[0])
 #define VEK_LEND(heap)                                                                               \
     VEK_LEND_TABLE((heap).kind), VEK_LEND_TABLE((heap).flags), VEK_LEND_TABLE((heap).count),         \
         VEK_LEND_TABLE((heap).slots), VEK_LEND_TABLE((heap).roots), VEK_LEND_TABLE((heap).queue),    \
         VEK_LEND_TABLE((heap).control)
+#define VEK_LEND_ALL(heap) VEK_LEND(heap), VEK_LEND_TABLE((heap).freed)
 
-/* Seven tables with their lengths, as every call takes them. */
+/* Seven tables with their lengths, as every call takes them; and the list of freed cells. */
 #define VEK_TABLES                                                                                   \
     uint16_t *kind, size_t kind_len, uint16_t *flags, size_t flags_len, uint16_t *count,             \
         size_t count_len, uint16_t *slots, size_t slots_len, uint16_t *roots, size_t roots_len,      \
         uint16_t *queue, size_t queue_len, uint16_t *control, size_t control_len
+#define VEK_FREED uint16_t *freed, size_t freed_len
 
 /* Every entry becomes 0, whatever stood there. Refused: SIZE. */
 vek_answer vek_fresh(VEK_TABLES);
 
 /* The lowest free cell, with count 1, is placed in an empty root. `finalizer` is 1 for an object that wants its
    finalizer run, else 0. Refused: SIZE, DAMAGED, NUMBER, TAKEN, FULL. */
-vek_answer vek_new(VEK_TABLES, size_t root, size_t new_kind, size_t finalizer);
+vek_answer vek_new(VEK_TABLES, VEK_FREED, size_t root, size_t new_kind, size_t finalizer);
 
 /* The root is emptied; an empty root is no error. Refused: SIZE, DAMAGED, NUMBER. */
-vek_answer vek_clear(VEK_TABLES, size_t root);
+vek_answer vek_clear(VEK_TABLES, VEK_FREED, size_t root);
 
 /* One root takes what another holds, which may be nothing. Refused: SIZE, DAMAGED, NUMBER. */
-vek_answer vek_copy(VEK_TABLES, size_t to_root, size_t from_root);
+vek_answer vek_copy(VEK_TABLES, VEK_FREED, size_t to_root, size_t from_root);
 
 /* A root takes what a slot of the object in another root holds. Refused: SIZE, DAMAGED, NUMBER, EMPTY, KIND. */
-vek_answer vek_load(VEK_TABLES, size_t to_root, size_t object_root, size_t slot);
+vek_answer vek_load(VEK_TABLES, VEK_FREED, size_t to_root, size_t object_root, size_t slot);
 
 /* A slot of the object in a root takes what another root holds. Refused: SIZE, DAMAGED, NUMBER, EMPTY, KIND. */
-vek_answer vek_store(VEK_TABLES, size_t object_root, size_t slot, size_t from_root);
+vek_answer vek_store(VEK_TABLES, VEK_FREED, size_t object_root, size_t slot, size_t from_root);
 
 /* A sweep: objects that neither roots nor queue reach and whose finalizer is still to run join the queue, and all
    that they reach stays; every other cell that is not reached is freed. If the queue was empty when the call began, a
    finalized object that stays was rescued, and its finalizer may run again; if not, perhaps queued objects alone reach
    it, so it stays finalized and a later sweep decides. Allowed while a finalizer runs. Refused: SIZE, DAMAGED. */
-vek_answer vek_collect(VEK_TABLES);
+vek_answer vek_collect(VEK_TABLES, VEK_FREED);
 
 /* The queue's head is placed in an empty root for its finalizer, which you then run. The queue stays.
    Refused: SIZE, DAMAGED, NUMBER, TAKEN, BUSY, NONE. */
-vek_answer vek_start(VEK_TABLES, size_t root);
+vek_answer vek_start(VEK_TABLES, VEK_FREED, size_t root);
 
-/* The finalizer has run: the head leaves the queue and is finalized, and the running root is emptied.
+/* The finalizer has run: the head leaves the queue and is finalized, and the running root is emptied. What the root
+   held comes off first, and then the queue's own reference, so that the cells freed by the first stand first in the list.
    Refused: SIZE, DAMAGED, IDLE. */
-vek_answer vek_finish(VEK_TABLES);
+vek_answer vek_finish(VEK_TABLES, VEK_FREED);
 
 /* Calls as lines of text, in the bits in which they arrive.
 
@@ -167,7 +180,8 @@ vek_answer vek_finish(VEK_TABLES);
    1 vek_new to 8 vek_finish in the order above, then its arguments, unused ones 0. CR LF ends a line; the last one may
    lack it, and a CR alone does not stand for it. Each line is answered by a line: the call's number, refused, freed,
    queued, cell. Any other line, one over 64 bytes among them, does nothing and is answered 0,11,0,0,0. On tables that
-   don't fit or are damaged each line that names a call is refused as that call would be.
+   don't fit or are damaged each line that names a call is refused as that call would be. Lines take no table for the
+   freed cells, and their answers don't name them.
 
    A reader is what is kept of a line that has not ended: seven numbers, however long the line is. VEK_READER_START, all
    zeros, holds nothing. What other numbers mean is the library's business; any are answered.

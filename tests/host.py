@@ -4,7 +4,8 @@
 - Each program of tests/ is built with sanitizers against the proved archive and run.
 - The header by itself is valid C and C++, and names each refusal of its list and no other number; the archive has
   nothing that a call could write and another call read.
-- examples/host.c, as C and as C++, prints what examples/host.txt says, with the header's version for @VERSION@.
+- examples/host.c, as C and as C++, prints what examples/host.txt says, with the header's version for @VERSION@, and leaks
+  nothing of what it keeps beside its cells; where its release is left out LeakSanitizer reports that.
 - examples/slow_line.c, as C and as C++, answers each line before the next bit of its input is sent, and in all as the
   program does, without the header; where it can't read or write it says so and fails.
 - What examples/dump.c, as C and as C++, sends is audited as its two heaps are. Where the audit can't read or write it says so,
@@ -44,6 +45,8 @@ INCLUDE = f"-I{TOP / 'include'}"
 HEADER = (TOP / "include" / "vekszalir.h").read_text()
 WARNINGS = ["-Wall", "-Wextra", "-Wpedantic", "-Werror"]
 C, CXX = ["gcc", "-std=c11"], ["g++", "-std=c++17", "-x", "c++"]
+CHECKED = {**os.environ, "ASAN_OPTIONS": "detect_leaks=1"}
+RELEASES = ["        free(text[cell]);\n", "    release(a.freed);\n"]  # the lines by which examples/host.c gives memory back
 OWN_STACK = {"stack"}  # it changes to a stack of its own, which AddressSanitizer does not follow
 
 ALONE = '#include "vekszalir.h"\n'
@@ -84,7 +87,7 @@ def built_and_run(folder, compiler, source, *flags):
     built = build(program, compiler, source, *flags)
     if built.returncode != 0:
         return built.stderr, False
-    done = run(program)
+    done = run(program, env=CHECKED)
     return done.stdout + done.stderr, done.returncode == 0
 
 
@@ -136,6 +139,17 @@ def examples(folder):
     lent = ["-fsanitize=address,undefined", INCLUDE, ARCHIVE]
     yield example("example in C", folder, C, *lent)
     yield example("example in C++", folder, CXX, *lent)
+
+
+def leaks(folder):
+    """The example without one of its releases: if that weren't reported, that the example leaks nothing would say nothing."""
+    source, text = folder / "leaking.c", EXAMPLE.read_text()
+    for line in RELEASES:
+        before, after = text.split(line)
+        source.write_text(before + after)
+        said, _ = built_and_run(folder, C, source, "-Wno-unused-function", "-fsanitize=address,undefined", INCLUDE, ARCHIVE)
+        reported = "LeakSanitizer: detected memory leaks" in said
+        yield f"example without {line.strip()}", "reported" if reported else said, reported
 
 
 def answers(data):
@@ -334,7 +348,7 @@ def small(folder):
 def main():
     subprocess.run(["make", *(path.relative_to(TOP) for path in (ARCHIVE, PROGRAM, AUDITOR))], cwd=TOP, check=True)
     passed = failed = 0
-    for tests in (c_tests, header, stateless, examples, slow_lines, dumps, audit_failures, little_room, installed, targets, programs, small):
+    for tests in (c_tests, header, stateless, examples, leaks, slow_lines, dumps, audit_failures, little_room, installed, targets, programs, small):
         with tempfile.TemporaryDirectory() as folder:
             for name, said, well in tests(pathlib.Path(folder)):
                 passed, failed = passed + well, failed + (not well)

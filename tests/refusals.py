@@ -29,7 +29,7 @@ EMPTY_OR_NOT = re.compile(
     r"the two \w+ differ only where one has `(?:\[\]`\s+\(expected\) and the other has `\([^`]*∷[^`]*\)"
     r"|\([^`]*∷[^`]*\)`\s+\(expected\) and the other has `\[\])`")
 # Closed statements, whose proof is `refl`: a test that does not compute to true is false, and lists that don't compute to the same differ.
-TEST_FAILS = re.compile(r"expected type `(?:CounterBook|MetExamples)`, but this has type `mathlib\.Core\.Path\._≡_ ")
+TEST_FAILS = re.compile(r"expected type `(?:CounterBook|MetExamples|ListExamples)`, but this has type `mathlib\.Core\.Path\._≡_ ")
 OTHER_NEEDS = re.compile(r"has no `Need-|type `tie\.Need-|\.Lts\.[^`]*`\s+has no field ")
 TWO_TYPES = re.compile(r"expected type|but has type|the two \w+ |whose two ends are equal, and `Path |\s≟ `|: `(?:rw|simp)`: no ")
 REFUSED = re.compile(r"fn (\S+): (?:not proved$|no proof: )")

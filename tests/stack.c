@@ -17,14 +17,14 @@ static vek_answer answer;
 static int failed;
 
 static void run_fresh(void) { answer = vek_fresh(VEK_LEND(heap)); }
-static void run_new(void) { answer = vek_new(VEK_LEND(heap), 1, VEK_OBJECT, 0); }
-static void run_clear(void) { answer = vek_clear(VEK_LEND(heap), 0); }
-static void run_copy(void) { answer = vek_copy(VEK_LEND(heap), 1, 0); }
-static void run_load(void) { answer = vek_load(VEK_LEND(heap), 1, 0, 0); }
-static void run_store(void) { answer = vek_store(VEK_LEND(heap), 0, 1, 0); }
-static void run_collect(void) { answer = vek_collect(VEK_LEND(heap)); }
-static void run_start(void) { answer = vek_start(VEK_LEND(heap), 1); }
-static void run_finish(void) { answer = vek_finish(VEK_LEND(heap)); }
+static void run_new(void) { answer = vek_new(VEK_LEND_ALL(heap), 1, VEK_OBJECT, 0); }
+static void run_clear(void) { answer = vek_clear(VEK_LEND_ALL(heap), 0); }
+static void run_copy(void) { answer = vek_copy(VEK_LEND_ALL(heap), 1, 0); }
+static void run_load(void) { answer = vek_load(VEK_LEND_ALL(heap), 1, 0, 0); }
+static void run_store(void) { answer = vek_store(VEK_LEND_ALL(heap), 0, 1, 0); }
+static void run_collect(void) { answer = vek_collect(VEK_LEND_ALL(heap)); }
+static void run_start(void) { answer = vek_start(VEK_LEND_ALL(heap), 1); }
+static void run_finish(void) { answer = vek_finish(VEK_LEND_ALL(heap)); }
 
 /* A COLLECT as a line, which vek_take answers at its CR LF and vek_end without it. */
 static const uint8_t line[] = {'6', ',', '0', ',', '0', ',', '0', '\r', '\n'};

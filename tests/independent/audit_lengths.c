@@ -35,11 +35,12 @@ static void refused_all(const size_t len[TABLES])
 
 static void differences_off(size_t n)
 {
-    const size_t wrong[] = { n + 1, 2 * n, n + 65536, CELLS_MAX + 1, n - 1, n / 2, 0 };
+    size_t wrong[WRONG_LENGTHS];
+    wrong_lengths(wrong, n);
     pair_sequence("lengths of the differences");
     struct pair pair = pair_of(n);
     fill_with_noise(&pair);
-    for (size_t i = 0; i < sizeof wrong / sizeof *wrong; i++) {
+    for (size_t i = 0; i < WRONG_LENGTHS; i++) {
         refused(&pair, wrong[i], empty);
         refused(&pair, wrong[i], begun);
     }

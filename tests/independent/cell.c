@@ -21,8 +21,9 @@ static void empty_slots(struct heap *heap, size_t cell)
 }
 
 /* "then the cell is all zeros". Q-3 of document 02: "the freeing step should write no slot of a string or buffer: on any
-   tables they stay as they were". The kind that decides is the one with which the step begins. */
-void free_cell(struct heap *heap, size_t cell)
+   tables they stay as they were". The kind that decides is the one with which the step begins. Q-5: "The freeing step has to
+   say which cell it freed": by its reference. */
+uint16_t free_cell(struct heap *heap, size_t cell)
 {
     uint16_t kind = heap->kind.at[cell];
     heap->kind.at[cell] = FREE;
@@ -30,4 +31,11 @@ void free_cell(struct heap *heap, size_t cell)
     heap->count.at[cell] = 0;
     if (kind != STRING && kind != BUFFER)
         empty_slots(heap, cell);
+    return cell + 1;
+}
+
+/* "in the order in which they became zeros" */
+void free_and_list(struct run *run, size_t cell)
+{
+    run->freed[run->listed++] = free_cell(run->heap, cell);
 }

@@ -1,5 +1,6 @@
 #include "choice.h"
 
+#include "misfits.h"
 #include "noting.h"
 #include "random.h"
 
@@ -122,9 +123,20 @@ struct wish knowing_wish(const struct heap *heap, enum mood mood)
     return wish;
 }
 
+/* Refused, whatever else the call asks for, and nothing changes. */
+static void call_with_misfit(struct pair *pair, const struct wish *wish)
+{
+    size_t len = misfitting_length(pair->ours.kind.len);
+    struct answer answer = pair_call_with(pair, len, wish->op, wish->arg[0], wish->arg[1], wish->arg[2]);
+    demand(answer.refused == SIZE, "a list that doesn't fit is refused");
+}
+
+/* Now and then the call is made with a list that doesn't fit before it is made with one that does. */
 void knowing_call(struct pair *pair, enum mood mood)
 {
     struct wish wish = knowing_wish(&pair->ours, mood);
+    if (chance(4))
+        call_with_misfit(pair, &wish);
     noted_call(pair, wish.op, wish.arg[0], wish.arg[1], wish.arg[2]);
 }
 
@@ -158,6 +170,23 @@ void knowing_holder(struct pair *pair)
     clear_holder(pair, holder);
 }
 
+/* Single calls seldom leave a cell in the running root that it alone holds. FINISH frees it, and then perhaps the one that was
+   finalised. */
+void knowing_finalizer(struct pair *pair)
+{
+    const struct heap *heap = &pair->ours;
+    enum kind kind = chance(50) ? OBJECT : STRING + below(2);
+    noted_call(pair, START, root_that(heap, holds_nothing), 0, 0);
+    if (heap->control.at[RUNNING] == 0)
+        return;
+    size_t running = heap->control.at[RUNNING] - 1;
+    noted_call(pair, CLEAR, running, 0, 0);
+    noted_call(pair, NEW, running, kind, 0);
+    if (kind == OBJECT)
+        noted_call(pair, STORE, running, any_slot(), root_that(heap, holds_something));
+    noted_call(pair, FINISH, 0, 0, 0);
+}
+
 static size_t blind_number(void)
 {
     return chance(80) ? below(4) : wild_number();
@@ -165,8 +194,8 @@ static size_t blind_number(void)
 
 void blind_call(struct pair *pair, enum op op)
 {
-    size_t a = blind_number(), b = blind_number(), c = blind_number();
-    pair_call(pair, op, a, b, c);
+    size_t n = pair->ours.kind.len, a = blind_number(), b = blind_number(), c = blind_number();
+    pair_call_with(pair, chance(85) ? n : misfitting_length(n), op, a, b, c);
 }
 
 void fill_with_noise(struct pair *pair)

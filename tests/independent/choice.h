@@ -19,7 +19,10 @@ void knowing_call(struct pair *pair, enum mood mood);
 /* Calls that make a cell which a slot alone holds, and then CLEAR a root of its holder, most of the time. */
 void knowing_holder(struct pair *pair);
 
-/* A call on tables that may be damaged: arguments are in range or wild, and nothing is followed. */
+/* Calls of a finalizer that puts a new cell in its running root, and its FINISH, most of the time. */
+void knowing_finalizer(struct pair *pair);
+
+/* A call on tables that may be damaged: arguments are in range or wild, the list fits or not, and nothing is followed. */
 void blind_call(struct pair *pair, enum op op);
 
 /* Noise of full 16-bit numbers in every entry. */

@@ -86,19 +86,19 @@ static void lower_slots(struct heap *heap, size_t cell)
 }
 
 /* "first the references of all of them come off their targets' counts" */
-static void sweep_references(struct heap *heap, const struct marks *marks)
+static void sweep_references(struct run *run, const struct marks *marks)
 {
-    for (size_t cell = 0; cell < heap->kind.len; cell++)
-        if (swept(heap, marks, cell))
-            lower_slots(heap, cell);
+    for (size_t cell = 0; cell < run->heap->kind.len; cell++)
+        if (swept(run->heap, marks, cell))
+            lower_slots(run->heap, cell);
 }
 
-/* "only after that do all of them become all zeros" */
-static void sweep_cells(struct heap *heap, const struct marks *marks)
+/* "only after that do all of them become all zeros". Q-5 has them listed "in cell order". */
+static void sweep_cells(struct run *run, const struct marks *marks)
 {
-    for (size_t cell = 0; cell < heap->kind.len; cell++)
-        if (swept(heap, marks, cell))
-            free_cell(heap, cell);
+    for (size_t cell = 0; cell < run->heap->kind.len; cell++)
+        if (swept(run->heap, marks, cell))
+            free_and_list(run, cell);
 }
 
 /* "Each marked cell with flags 3 gets flags 1 again: it was rescued." */
@@ -120,8 +120,8 @@ void collect(struct run *run)
     mark_reached(&marks, heap);
     enqueue_unmarked(run, &marks);
     mark_from(&marks, heap, &heap->queue);
-    sweep_references(heap, &marks);
-    sweep_cells(heap, &marks);
+    sweep_references(run, &marks);
+    sweep_cells(run, &marks);
     if (queue_was_empty)
         rescue(heap, &marks);
 }

@@ -16,8 +16,10 @@ static bool compare_calls(void)
     numbers();
     damage();
     freeing();
+    freed_examples();
     stops();
     lengths();
+    freed_lengths();
     corners();
     chains();
     trees();

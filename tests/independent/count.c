@@ -50,7 +50,7 @@ static void serve(struct run *run, size_t cell)
 {
     for (size_t slot = 0; slot < SLOTS; slot++)
         decref(run, *slot_of(run->heap, cell, slot));
-    free_cell(run->heap, cell);
+    free_and_list(run, cell);
 }
 
 /* "The work list is served oldest first ... This ends within the call." */

@@ -33,6 +33,22 @@ static const char *const landmark_names[LANDMARKS] = {
     [QUEUE_FULL] = "a queue of N entries",
     [NOISE_SOUND] = "random tables that are sound",
     [NOISE_DAMAGED] = "random tables that are damaged",
+    [LIST_OF_NONE] = "a call done that frees nothing, with its list",
+    [LIST_OF_ONE] = "a list of one freed cell",
+    [LIST_IN_CELL_ORDER] = "a cascade's list of several cells in cell order",
+    [LIST_IN_ANOTHER_ORDER] = "a cascade's list of several cells in another order",
+    [LIST_OF_ALL] = "a list of N freed cells",
+    [COLLECT_LISTS_SEVERAL] = "COLLECT that lists several cells",
+    [FINISH_LISTS_BOTH] = "FINISH that lists cells freed by both of its take-offs",
+    [REFUSED_WITH_LIST] = "a refusal with tables and a list that fit",
+    [SIZE_BY_LIST_ALONE] = "a list that doesn't fit, with a sound heap",
+    [SIZE_BY_LIST_BEFORE_DAMAGED] = "a list that doesn't fit, with a damaged heap",
+    [SIZE_BY_TABLES_ALONE] = "tables that don't fit, with a list that would",
+    [SIZE_BY_TABLES_AND_LIST] = "tables that don't fit, and a list that doesn't either",
+    [LIST_ONE_TOO_LONG] = "a list of N + 1 entries",
+    [LIST_ONE_TOO_SHORT] = "a list of N - 1 entries",
+    [LIST_WITHOUT_ENTRIES] = "a list of no entries",
+    [LIST_NULL] = "a list of no entries that is a null pointer",
     [LINE_DONE] = "a line whose call is done",
     [LINE_SIZE] = "a line whose call is refused SIZE",
     [LINE_DAMAGED] = "a line whose call is refused DAMAGED",
@@ -73,12 +89,16 @@ static const unsigned queue_at_least[OPS] = {
     [CLEAR] = 33, [COPY] = 1, [LOAD] = 1, [STORE] = 1, [COLLECT] = 257, [FINISH] = 2,
 };
 
-/* A landmark has to be met more often than so. Those of Q-2 and Q-3 count random calls alone, so that a slip there shows in
-   many of them. */
+/* A landmark has to be met more often than so. Those of Q-2 and Q-3 and FINISH's of Q-5 count random calls alone, so that a
+   slip there shows in many of them. */
 static const unsigned long more_often_than[LANDMARKS] = {
     [COLLECT_RESCUES] = 100, [COLLECT_RESCUES_AND_QUEUES] = 100, [COLLECT_POSTPONES_RESCUE] = 100,
     [CASCADE_FREES_STRING] = 100, [CASCADE_FREES_BUFFER] = 100, [CASCADE_FREES_FULL_OBJECT] = 100,
     [COLLECT_FREES_STRING] = 100, [COLLECT_FREES_BUFFER] = 100, [COLLECT_FREES_FULL_OBJECT] = 100,
+    [LIST_OF_NONE] = 100, [LIST_OF_ONE] = 100, [LIST_IN_CELL_ORDER] = 100, [LIST_IN_ANOTHER_ORDER] = 100, [LIST_OF_ALL] = 100,
+    [COLLECT_LISTS_SEVERAL] = 100, [FINISH_LISTS_BOTH] = 100, [REFUSED_WITH_LIST] = 100, [SIZE_BY_LIST_ALONE] = 100,
+    [SIZE_BY_LIST_BEFORE_DAMAGED] = 100, [SIZE_BY_TABLES_ALONE] = 100, [SIZE_BY_TABLES_AND_LIST] = 100,
+    [LIST_ONE_TOO_LONG] = 100, [LIST_ONE_TOO_SHORT] = 100, [LIST_WITHOUT_ENTRIES] = 100, [LIST_NULL] = 100,
 };
 
 static void raise_to(unsigned *most, unsigned number)

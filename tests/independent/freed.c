@@ -27,6 +27,34 @@ static bool was_freed(const struct before *before, const struct heap *heap, size
     return before->kind[cell] != FREE && heap->kind.at[cell] == FREE;
 }
 
+static size_t freed_cells(const struct before *before, const struct heap *heap)
+{
+    size_t freed = 0;
+    for (size_t cell = 0; cell < heap->kind.len; cell++)
+        freed += was_freed(before, heap, cell);
+    return freed;
+}
+
+/* Whether a reference names a freed cell that was not listed so far. */
+static bool lists_another(bool listed[CELLS_MAX], uint16_t ref, const struct before *before, const struct heap *heap)
+{
+    if (ref == 0 || ref > heap->kind.len || listed[ref - 1])
+        return false;
+    listed[ref - 1] = true;
+    return was_freed(before, heap, ref - 1);
+}
+
+/* As many entries as there are freed cells, each of another one, have them all. */
+bool lists_freed(const struct table *list, const struct before *before, const struct heap *heap)
+{
+    bool listed[CELLS_MAX] = { false };
+    size_t freed = freed_cells(before, heap);
+    for (size_t i = 0; i < list->len; i++)
+        if (i < freed ? !lists_another(listed, list->at[i], before, heap) : list->at[i] != 0)
+            return false;
+    return true;
+}
+
 static bool all_full(const uint16_t slots[SLOTS])
 {
     for (size_t slot = 0; slot < SLOTS; slot++)

@@ -4,6 +4,8 @@
 
 #include "heap.h"
 
+#include <stdbool.h>
+
 /* Of the tables before the call, what a freed cell no longer shows. */
 struct before {
     uint16_t kind[CELLS_MAX], slots[SLOTS * CELLS_MAX];
@@ -11,5 +13,9 @@ struct before {
 
 void before_call(struct before *before, const struct heap *heap);
 void note_freed(const struct before *before, const struct heap *heap, enum op op);
+
+/* Whether a list has each cell that was used before the call and is free after it, once, and then 0: told from the kinds, not
+   from how they were freed. */
+bool lists_freed(const struct table *list, const struct before *before, const struct heap *heap);
 
 #endif

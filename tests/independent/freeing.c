@@ -55,14 +55,25 @@ static void check_tables(struct pair *pair, size_t cell)
         check_table(pair, t, cell);
 }
 
+/* "The freeing step has to say which cell it freed". */
+static void check_said(uint16_t said, size_t cell)
+{
+    if (said == cell + 1)
+        return;
+    pair_tell_place();
+    printf("cell %zu is freed: the step says reference %u, not %zu\n", cell, said, cell + 1);
+    exit(1);
+}
+
 static void free_alone(struct pair *pair, size_t cell, uint16_t kind)
 {
     fill_with_noise(pair);
     pair->ours.kind.at[cell] = kind;
     pair_share(pair);
     pair_step();
-    free_cell(&pair->ours, cell);
+    uint16_t said = free_cell(&pair->ours, cell);
     check_tables(pair, cell);
+    check_said(said, cell);
 }
 
 static void any_tables(size_t cells)
@@ -108,6 +119,7 @@ static void free_in_call(void (*user)(struct run *), uint16_t kind)
     user(&run);
     pair.theirs.count.at[1] -= SLOTS;
     check_tables(&pair, 0);
+    check_said(run.listed == 1 ? run.freed[0] : 0, 0);
     pair_free(&pair);
 }
 

@@ -113,6 +113,14 @@ static uint16_t freed(const struct heap *heap, const uint16_t *kind_before)
     return cells;
 }
 
+/* Q-5: "its first "freed" entries are the freed cells' references in the order in which they became zeros, COLLECT's in cell
+   order, and the rest are 0" */
+static void give_list(const struct table *freed, const struct run *run)
+{
+    for (size_t i = 0; i < freed->len; i++)
+        freed->at[i] = i < run->listed ? run->freed[i] : 0;
+}
+
 struct answer perform(const struct request *request)
 {
     struct run run = { .heap = request->heap };
@@ -121,6 +129,7 @@ struct answer perform(const struct request *request)
     memcpy(kind_before, kind->at, kind->len * sizeof *kind->at);
     calls[request->op](&run, request->arg);
     run.answer.freed = freed(request->heap, kind_before);
+    give_list(&request->freed, &run);
     return run.answer;
 }
 
@@ -143,10 +152,11 @@ static struct answer fresh(struct heap *heap)
     return (struct answer){ 0 };
 }
 
-/* "A refusal changes no table entry and answers freed 0, queued 0, cell 0." */
-struct answer call(struct heap *heap, enum op op, size_t a, size_t b, size_t c)
+/* "A refusal changes no table entry and answers freed 0, queued 0, cell 0." Q-5 says of its table: "After a refusal it is as
+   before." */
+struct answer call(struct heap *heap, struct table freed, enum op op, size_t a, size_t b, size_t c)
 {
-    struct request request = { heap, op, { a, b, c } };
+    struct request request = { heap, freed, op, { a, b, c } };
     struct answer refused = { .refused = refusal(&request) };
     if (refused.refused != DONE)
         return refused;

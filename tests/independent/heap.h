@@ -1,5 +1,6 @@
-/* The script heap of document 01, with Q-2, Q-3 and Q-10 of document 02, written from these documents alone and as plainly
-   as they allow, to be compared with the heap under test. Speed is no aim here: each rule stands in a function of its own. */
+/* The script heap of document 01, with Q-2, Q-3, Q-5 and Q-10 of document 02, written from these documents alone and as
+   plainly as they allow, to be compared with the heap under test. Speed is no aim here: each rule stands in a function of its
+   own. */
 #ifndef HEAP_H
 #define HEAP_H
 
@@ -34,8 +35,9 @@ struct answer {
 };
 
 /* Makes the call `op` with its arguments in document 01's order, the unused ones being anything. Any lengths, any
-   entries and any numbers are answered. */
-struct answer call(struct heap *heap, enum op op, size_t a, size_t b, size_t c);
+   entries and any numbers are answered. `freed` is the table that Q-5 asks for, which is no part of the heap; FRESH takes
+   none and looks at none. */
+struct answer call(struct heap *heap, struct table freed, enum op op, size_t a, size_t b, size_t c);
 
 /* Q-10: "from a sound heap no taking-off, at any point of a cascade, a sweep or a FINISH, meets a zero count". Where one does,
    the heap calls this, which is defined by whoever runs it: the cell is reported, and the run ends with a failure. */

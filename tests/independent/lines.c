@@ -35,12 +35,20 @@ static bool is_call(const unsigned field[FIELDS])
     return true;
 }
 
+/* "the CSV program doesn't print it". The list goes to room that is the line's own, and fits wherever N does. */
+static struct answer call_of(struct heap *heap, const unsigned field[FIELDS])
+{
+    uint16_t room[CELLS_MAX];
+    const struct table freed = { room, heap->kind.len };
+    return call(heap, freed, field[0], field[1], field[2], field[3]);
+}
+
 /* "Any other line ... is refused 11 LINE, with 0 as its call, and does nothing" */
 struct reply answer_line(struct heap *heap, struct text line)
 {
     unsigned field[FIELDS];
     if (four_numbers(line, field) && is_call(field))
-        return (struct reply){ field[0], call(heap, field[0], field[1], field[2], field[3]) };
+        return (struct reply){ field[0], call_of(heap, field) };
     return (struct reply){ 0, { .refused = LINE } };
 }
 

@@ -4,11 +4,11 @@
 #include "random.h"
 
 /* How many lists of how many steps, by the number of cells. Few cells fill soon, many need long lists. A step is a call or,
-   in so many of a hundred, several that free a cell with its holder: one or two cells leave little room for it, and with many
-   cells it takes long. */
+   in so many of a hundred, several that free a cell with its holder, or with one that was finalised: one or two cells leave
+   little room for it, and with many cells it takes long. */
 struct plan {
     size_t cells, lists, steps;
-    unsigned with_holder;
+    unsigned several;
 };
 
 static const struct plan plans[] = {
@@ -27,8 +27,10 @@ static void list(const struct plan *plan)
     for (size_t i = 0; i < plan->steps; i++) {
         if (chance(6))
             mood = below(MOODS);
-        if (chance(plan->with_holder))
+        if (chance(plan->several))
             knowing_holder(&pair);
+        else if (chance(plan->several))
+            knowing_finalizer(&pair);
         else
             knowing_call(&pair, mood);
     }

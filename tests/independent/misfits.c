@@ -1,16 +1,31 @@
 #include "misfits.h"
 
+#include "random.h"
+
+#include <string.h>
+
 static const size_t cells[] = { 1, 2, 3, 5, 8, 64, 1023, 1024 };
 static const size_t bad_cells[] = { 0, 1025, 1026, 2048, 8192, 65536, 65537 };
 
-/* Longer before shorter: who leaves out the check of a longer table doesn't read outside it. */
+void wrong_lengths(size_t wrong[WRONG_LENGTHS], size_t fitting)
+{
+    const size_t all[WRONG_LENGTHS] = { fitting + 1, 2 * fitting, fitting + 65536, CELLS_MAX + 1, fitting - 1, fitting / 2, 0 };
+    memcpy(wrong, all, sizeof all);
+}
+
+size_t misfitting_length(size_t fitting)
+{
+    const size_t near[] = { fitting + 1, fitting - (fitting > 0), 0, below(2 * fitting + 2) };
+    size_t len = near[below(sizeof near / sizeof *near)];
+    return len == fitting ? fitting + 1 : len;
+}
+
 static void one_off(size_t n, enum table_number t, with_lengths *with)
 {
-    size_t len[TABLES];
+    size_t len[TABLES], wrong[WRONG_LENGTHS];
     fitting_lengths(len, n);
-    size_t fitting = len[t];
-    const size_t wrong[] = { fitting + 1, 2 * fitting, fitting + 65536, fitting - 1, fitting / 2, 0 };
-    for (size_t i = 0; i < sizeof wrong / sizeof *wrong; i++) {
+    wrong_lengths(wrong, len[t]);
+    for (size_t i = 0; i < WRONG_LENGTHS; i++) {
         len[t] = wrong[i];
         with(len);
     }

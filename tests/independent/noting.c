@@ -2,6 +2,7 @@
 
 #include "coverage.h"
 #include "freed.h"
+#include "listing.h"
 
 #include <string.h>
 
@@ -68,13 +69,38 @@ static struct answer noted_collect(struct pair *pair)
     return answer;
 }
 
+static struct answer noted_finish(struct pair *pair)
+{
+    const struct heap *heap = &pair->ours;
+    uint16_t running = heap->control.at[RUNNING], head = heap->queue.at[0];
+    uint16_t held = running == 0 ? 0 : heap->roots.at[running - 1];
+    struct answer answer = pair_call(pair, FINISH, 0, 0, 0);
+    if (answer.refused == DONE)
+        note_finish_list(&pair->freed.ours, head, held);
+    return answer;
+}
+
+static struct answer noted_op(struct pair *pair, enum op op, size_t a, size_t b, size_t c)
+{
+    switch (op) {
+    case COLLECT:
+        return noted_collect(pair);
+    case FINISH:
+        return noted_finish(pair);
+    default:
+        return pair_call(pair, op, a, b, c);
+    }
+}
+
 struct answer noted_call(struct pair *pair, enum op op, size_t a, size_t b, size_t c)
 {
     struct before before;
     before_call(&before, &pair->ours);
     note_situation(op, a, &pair->ours);
-    struct answer answer = op == COLLECT ? noted_collect(pair) : pair_call(pair, op, a, b, c);
+    struct answer answer = noted_op(pair, op, a, b, c);
     if (answer.freed != 0)
         note_freed(&before, &pair->ours, op);
+    if (answer.refused == DONE)
+        demand(lists_freed(&pair->freed.ours, &before, &pair->ours), "the list names each freed cell once, and no other");
     return answer;
 }

@@ -1,17 +1,18 @@
 #include "pair.h"
 
 #include "coverage.h"
+#include "guarded.h"
+#include "listing.h"
 #include "tested.h"
 
 #include <stdio.h>
 #include <stdlib.h>
 #include <string.h>
 
-enum { GUARDS = 32, GUARD = 0xa5c3 };
-
-/* A call with both answers to it. */
+/* A call with the length of its list and both answers to it. */
 struct event {
     enum op op;
+    size_t list_len;
     size_t arg[3];
     struct answer ours, theirs;
 };
@@ -62,23 +63,12 @@ bool pair_lends_null(void)
     return place.sequence % 2 == 0;
 }
 
-/* The heap under test isn't seen by AddressSanitizer: guard entries show what it writes outside. */
-static uint16_t *guarded_room(size_t len)
-{
-    size_t all = len + 2 * GUARDS;
-    uint16_t *room = malloc(all * sizeof *room);
-    for (size_t i = 0; i < all; i++)
-        room[i] = i < GUARDS || i >= GUARDS + len ? GUARD : 0;
-    return room;
-}
-
 struct pair pair_make(const size_t len[TABLES])
 {
     struct pair pair = { .ours = exact_heap(len) };
     for (int t = 0; t < TABLES; t++) {
         pair.guarded[t] = guarded_room(len[t]);
-        bool null = len[t] == 0 && pair_lends_null();
-        *table_of(&pair.theirs, t) = (struct table){ null ? NULL : pair.guarded[t] + GUARDS, len[t] };
+        *table_of(&pair.theirs, t) = guarded_table(pair.guarded[t], len[t]);
     }
     return pair;
 }
@@ -93,6 +83,7 @@ struct pair pair_of(size_t n)
 void pair_free(struct pair *pair)
 {
     exact_heap_free(&pair->ours);
+    freed_list_free(&pair->freed);
     for (int t = 0; t < TABLES; t++)
         free(pair->guarded[t]);
 }
@@ -133,52 +124,21 @@ static void check(const struct event *event, const char *difference)
     if (difference == NULL)
         return;
     pair_tell_place();
-    printf("%s %zu, %zu, %zu\n", op_names[event->op], event->arg[0], event->arg[1], event->arg[2]);
+    printf("%s %zu, %zu, %zu with room for %zu freed cells\n", op_names[event->op], event->arg[0], event->arg[1], event->arg[2],
+           event->list_len);
     print_answer("the independent heap", event->ours);
     print_answer("the heap under test", event->theirs);
     printf("  %s\n", difference);
     exit(1);
 }
 
-static bool guards_stand(const uint16_t *room, size_t len)
-{
-    for (size_t i = 0; i < GUARDS; i++)
-        if (room[i] != GUARD || room[GUARDS + len + i] != GUARD)
-            return false;
-    return true;
-}
-
-/* In words, or null. */
-static const char *entry_difference(struct pair *pair, enum table_number t)
-{
-    static char words[120];
-    const struct table *ours = table_of(&pair->ours, t), *theirs = table_of(&pair->theirs, t);
-    size_t i = 0;
-    if (ours->len == 0 || memcmp(ours->at, theirs->at, ours->len * sizeof *ours->at) == 0)
-        return NULL;
-    while (ours->at[i] == theirs->at[i])
-        i++;
-    snprintf(words, sizeof words, "first differing entry: %s %zu, independent %u, under test %u", table_names[t], i, ours->at[i],
-             theirs->at[i]);
-    return words;
-}
-
-static const char *guard_difference(struct pair *pair, enum table_number t)
-{
-    static char words[120];
-    if (guards_stand(pair->guarded[t], table_of(&pair->theirs, t)->len))
-        return NULL;
-    snprintf(words, sizeof words, "the heap under test wrote outside the table %s", table_names[t]);
-    return words;
-}
-
 const char *pair_difference(struct pair *pair)
 {
     const char *difference = NULL;
     for (int t = 0; t < TABLES && difference == NULL; t++)
-        difference = entry_difference(pair, t);
+        difference = table_difference(table_names[t], table_of(&pair->ours, t), table_of(&pair->theirs, t));
     for (int t = 0; t < TABLES && difference == NULL; t++)
-        difference = guard_difference(pair, t);
+        difference = guard_difference(table_names[t], table_of(&pair->theirs, t), pair->guarded[t]);
     return difference;
 }
 
@@ -187,12 +147,23 @@ static const char *answer_difference(const struct event *event)
     return memcmp(&event->ours, &event->theirs, sizeof event->ours) == 0 ? NULL : "the answers differ";
 }
 
-struct answer pair_call(struct pair *pair, enum op op, size_t a, size_t b, size_t c)
+struct answer pair_call_with(struct pair *pair, size_t list_len, enum op op, size_t a, size_t b, size_t c)
 {
     pair_step();
-    struct event event = { op, { a, b, c }, call(&pair->ours, op, a, b, c), tested_call(&pair->theirs, op, a, b, c) };
+    freed_list_free(&pair->freed);
+    pair->freed = freed_list_of(list_len, pair->ours.kind.len);
+    struct event event = { .op = op, .list_len = list_len, .arg = { a, b, c } };
+    event.ours = call(&pair->ours, pair->freed.ours, op, a, b, c);
+    event.theirs = tested_call(&pair->theirs, pair->freed.theirs, op, a, b, c);
     check(&event, pair_difference(pair));
     check(&event, answer_difference(&event));
+    check(&event, freed_list_difference(&pair->freed));
     coverage_call(op, event.ours);
+    note_list(pair, op, event.ours);
     return event.ours;
+}
+
+struct answer pair_call(struct pair *pair, enum op op, size_t a, size_t b, size_t c)
+{
+    return pair_call_with(pair, pair->ours.kind.len, op, a, b, c);
 }

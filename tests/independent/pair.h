@@ -3,6 +3,7 @@
 #ifndef PAIR_H
 #define PAIR_H
 
+#include "freed_list.h"
 #include "tables.h"
 
 #include <stdbool.h>
@@ -10,6 +11,7 @@
 struct pair {
     struct heap ours, theirs;
     uint16_t *guarded[TABLES]; /* the room of `theirs`, with guard entries around each table */
+    struct freed_list freed;   /* as the last call has left it */
 };
 
 /* Named in the report of a difference. */
@@ -41,6 +43,8 @@ const char *pair_difference(struct pair *pair);
 /* Ends the program, with a report, if what both heaps did isn't what the documents say. */
 void demand(bool holds, const char *what);
 
+/* With a table for the freed cells that fits N, and with one of any length. */
 struct answer pair_call(struct pair *pair, enum op op, size_t a, size_t b, size_t c);
+struct answer pair_call_with(struct pair *pair, size_t list_len, enum op op, size_t a, size_t b, size_t c);
 
 #endif

@@ -9,16 +9,20 @@
 /* A call as it was asked for. */
 struct request {
     struct heap *heap;
+    struct table freed;
     enum op op;
     size_t arg[3];
 };
 
-/* A call under way. A cell joins the work list when its count reaches zero, hence once at most. */
+/* A call under way. A cell joins the work list when its count reaches zero, hence once at most. It joins the list of freed
+   cells, which holds references, when it becomes all zeros. */
 struct run {
     struct heap *heap;
     struct answer answer;
     uint16_t work[CELLS_MAX];
     size_t joined, served;
+    uint16_t freed[CELLS_MAX];
+    size_t listed;
 };
 
 /* fit.c: whether the lengths are those of a heap. */
@@ -30,10 +34,11 @@ bool sound(const struct heap *heap);
 /* refusal.c: the lowest refusal number whose case is given, or DONE. */
 enum refusal refusal(const struct request *request);
 
-/* cell.c: single cells, and the freeing step. */
+/* cell.c: single cells, and the freeing step, which says which cell it freed. */
 size_t lowest_free(const struct heap *heap);
 uint16_t *slot_of(const struct heap *heap, size_t cell, size_t slot);
-void free_cell(struct heap *heap, size_t cell);
+uint16_t free_cell(struct heap *heap, size_t cell);
+void free_and_list(struct run *run, size_t cell);
 
 /* count.c: "Taking off" and its opposite. */
 void incref(struct heap *heap, uint16_t ref);

@@ -29,7 +29,7 @@ int main(void)
     struct heap heap = { { kind, CELLS }, { flags, CELLS }, { count, CELLS }, { slots, SLOTS * CELLS },
                          { roots, ROOTS }, { queue, CELLS }, { control, CONTROL } };
     struct text input = read_all(stdin);
-    call(&heap, FRESH, 0, 0, 0);
+    call(&heap, (struct table){ 0 }, FRESH, 0, 0, 0);
     printf("op,refused,freed,queued,cell\r\n");
     answer_all(&heap, input);
     free((char *)input.at);

@@ -13,9 +13,15 @@ static const enum argument shape[OPS][3] = {
     [START] = { ROOT },
 };
 
+/* "each call except FRESH takes one more lent table of N entries, else SIZE" */
+static bool list_misfits(const struct request *request)
+{
+    return request->op != FRESH && request->freed.len != request->heap->kind.len;
+}
+
 static bool is_size(const struct request *request)
 {
-    return !lengths_fit(request->heap);
+    return !lengths_fit(request->heap) || list_misfits(request);
 }
 
 /* "FRESH gives only SIZE" */

@@ -18,6 +18,9 @@ void readers(void); /* readers with any numbers in them */
 void freeing(void); /* the freeing step of the independent heap alone, on any tables */
 void stops(void);   /* counts met at zero by the independent heap alone, in tables that calls refuse */
 
+void freed_examples(void); /* lists of freed cells that are known */
+void freed_lengths(void);  /* lists of freed cells whose lengths don't fit */
+
 void audit_examples(void); /* heaps whose differences are known */
 void audit_lengths(void);  /* tables and differences whose lengths don't fit */
 void audit_reports(void);  /* reports with any numbers in them */

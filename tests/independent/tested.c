@@ -5,33 +5,36 @@
         heap->slots.at, heap->slots.len, heap->roots.at, heap->roots.len, heap->queue.at, heap->queue.len,    \
         heap->control.at, heap->control.len
 
-static vek_answer pass_on(struct heap *heap, enum op op, size_t a, size_t b, size_t c)
+#define LENT_ALL LENT, freed.at, freed.len
+
+/* FRESH alone takes no table for the freed cells. */
+static vek_answer pass_on(struct heap *heap, struct table freed, enum op op, size_t a, size_t b, size_t c)
 {
     switch (op) {
     case NEW:
-        return vek_new(LENT, a, b, c);
+        return vek_new(LENT_ALL, a, b, c);
     case CLEAR:
-        return vek_clear(LENT, a);
+        return vek_clear(LENT_ALL, a);
     case COPY:
-        return vek_copy(LENT, a, b);
+        return vek_copy(LENT_ALL, a, b);
     case LOAD:
-        return vek_load(LENT, a, b, c);
+        return vek_load(LENT_ALL, a, b, c);
     case STORE:
-        return vek_store(LENT, a, b, c);
+        return vek_store(LENT_ALL, a, b, c);
     case COLLECT:
-        return vek_collect(LENT);
+        return vek_collect(LENT_ALL);
     case START:
-        return vek_start(LENT, a);
+        return vek_start(LENT_ALL, a);
     case FINISH:
-        return vek_finish(LENT);
+        return vek_finish(LENT_ALL);
     default:
         return vek_fresh(LENT);
     }
 }
 
-struct answer tested_call(struct heap *heap, enum op op, size_t a, size_t b, size_t c)
+struct answer tested_call(struct heap *heap, struct table freed, enum op op, size_t a, size_t b, size_t c)
 {
-    vek_answer answer = pass_on(heap, op, a, b, c);
+    vek_answer answer = pass_on(heap, freed, op, a, b, c);
     return (struct answer){ answer.refused, answer.freed, answer.queued, answer.cell };
 }
 

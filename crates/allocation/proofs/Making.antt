@@ -1,8 +1,9 @@
 -- What NEW's code writes and answers is what NEW does.
 -- Assumes nothing.
-use Prim.Native.Nat.{ℕ}
-use mathlib.Core.List.{List}
+use Prim.Native.Nat.{ℕ, suc}
+use mathlib.Core.List.{List, map}
 use mathlib.Core.Path.{_≡_, refl}
+use lib.ListN.{length, take}
 use Rattle.rules.specs.Heap.{Heap, tables, setKind, setFlags, setCount, setRoot}
 use Rattle.rules.specs.Refusals.{lowestFree}
 use Rattle.rules.specs.Refusals.Call.{NEW}
@@ -21,3 +22,8 @@ module _ (h : Heap) (r k f : ℕ) {c : ℕ} (low : c ≡ lowestFree (h .kind)) w
   pub new-answer : answers 0 0 0 c ≡ act h (NEW r k f) .answer
   unfolding act done
   new-answer = rw low refl
+
+-- NEW frees nothing: its list is empty
+pub new-lists : (h : Heap) (r k f : ℕ) (room : List ℕ) → take (length (act h (NEW r k f) .freed)) room ≡ map suc (act h (NEW r k f) .freed)
+unfolding act done
+new-lists h r k f room = refl

@@ -5,3 +5,4 @@ mod zeroing;
 
 pub use placing::new;
 pub use zeroing::fresh;
+pub use zeroing::zero;

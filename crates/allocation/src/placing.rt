@@ -1,13 +1,15 @@
 // NEW: the lowest free cell is placed in an empty root.
+ghost use mathlib.Core.List.{List};
 ghost use mathlib.Core.Path.{_≡_};
-ghost use Prim.Native.Nat.{_<_};
+ghost use Prim.Native.Nat.{ℕ, _<_};
 ghost use lib.ListN.{length};
 ghost use Rattle.numbers.specs.Numbers.{AsCell};
 ghost use Rattle.rules.specs.Heap.{tables};
 ghost use Rattle.rules.specs.Sound.{Ready};
-ghost use Rattle.rules.specs.Calls.{Did, answers};
+ghost use Rattle.rules.specs.Calls.{answers};
 ghost use Rattle.rules.specs.Refusals.{lowestFree};
 ghost use Rattle.rules.specs.Refusals.Call.{NEW};
+ghost use Rattle.laws.specs.Calls.Inner.{Ran};
 ghost use Rattle.allocation.specs.Places.{Placed, Placeable};
 use crate::shape::Shape;
 use crate::shape::ShapeNumbers;
@@ -84,9 +86,9 @@ pub fn new(
     finalizer: usize,
 ) -> Answer
     requires { ⌜ Ready (tables (now kind) (now flags) (now count) (now slots) (now roots) (now queue) (now control)) ⌝ }
-    ensures { λ r. ⌜ Did (NEW root wanted finalizer)
-        (tables (now (kind .entry)) (now (flags .entry)) (now (count .entry)) (now (slots .entry)) (now (roots .entry)) (now (queue .entry)) (now (control .entry)))
-        (tables (now (kind .exit)) (now (flags .exit)) (now (count .exit)) (now (slots .entry)) (now (roots .exit)) (now (queue .entry)) (now (control .entry))) r ⌝ }
+    ensures { λ r. ⌜ ((room : List ℕ) → Ran (NEW root wanted finalizer)
+        (tables (now (kind .entry)) (now (flags .entry)) (now (count .entry)) (now (slots .entry)) (now (roots .entry)) (now (queue .entry)) (now (control .entry))) room
+        (tables (now (kind .exit)) (now (flags .exit)) (now (count .exit)) (now (slots .entry)) (now (roots .exit)) (now (queue .entry)) (now (control .entry))) room r) ⌝ }
 {
     let RootNumber::Is(to) = Root::of(root) else {
         return refuse(NUMBER);

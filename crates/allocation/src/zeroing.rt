@@ -1,4 +1,5 @@
 // FRESH: every entry of every table becomes 0.
+ghost use mathlib.Core.List.{[]};
 ghost use mathlib.Core.Path.{_≡_};
 ghost use lib.ListN.{length, replicate};
 ghost use Rattle.rules.specs.Heap.{tables};
@@ -8,8 +9,8 @@ ghost use Rattle.rules.specs.Refusals.Call.{FRESH};
 use answers::done;
 use rules::Answer;
 
-// Every entry 0.
-fn zero(s: &mut [u16])
+// Every entry becomes 0.
+pub fn zero(s: &mut [u16])
     ensures { λ _. ⌜ now (s .exit) ≡ replicate (length (now (s .entry))) 0 ⌝ }
 {
     let mut i = 0;
@@ -31,8 +32,8 @@ pub fn fresh(
 ) -> Answer
     requires { ⌜ Sized (tables (now kind) (now flags) (now count) (now slots) (now roots) (now queue) (now control)) ⌝ }
     ensures { λ r. ⌜ Did FRESH
-        (tables (now (kind .entry)) (now (flags .entry)) (now (count .entry)) (now (slots .entry)) (now (roots .entry)) (now (queue .entry)) (now (control .entry)))
-        (tables (now (kind .exit)) (now (flags .exit)) (now (count .exit)) (now (slots .exit)) (now (roots .exit)) (now (queue .exit)) (now (control .exit))) r ⌝ }
+        (tables (now (kind .entry)) (now (flags .entry)) (now (count .entry)) (now (slots .entry)) (now (roots .entry)) (now (queue .entry)) (now (control .entry))) []
+        (tables (now (kind .exit)) (now (flags .exit)) (now (count .exit)) (now (slots .exit)) (now (roots .exit)) (now (queue .exit)) (now (control .exit))) [] r ⌝ }
 {
     zero(kind);
     zero(flags);

@@ -1,5 +1,6 @@
-// The answers that tell of no cell: of a refusal, and of a call that is done.
+// The answers of calls, but for NEW's: of a refusal, and of a call that is done.
 ghost use mathlib.Core.Path.{_≡_};
+ghost use Prim.Native.Nat.{_<_};
 ghost use Rattle.rules.specs.Calls.{answers};
 use rules::Answer;
 use rules::DONE;
@@ -28,4 +29,17 @@ pub fn done() -> Answer
     ensures { λ r. ⌜ r ≡ answers 0 0 0 0 ⌝ }
 {
     bare_answer(DONE)
+}
+
+// The answer of a call that is done, and has freed and queued so many cells.
+pub fn finished(freed: usize, queued: u16) -> Answer
+    requires { ⌜ freed < 65536 ⌝ }
+    ensures { λ r. ⌜ r ≡ answers 0 freed queued 0 ⌝ }
+{
+    Answer {
+        refused: DONE,
+        freed: freed as u16,
+        queued,
+        cell: 0,
+    }
 }

@@ -5,22 +5,23 @@ use native.Mathlib.Omega.{arith}
 use mathlib.Core.List.{List, [], _∷_}
 use mathlib.Core.Logic.{_≢_}
 use mathlib.Core.Path.{_≡_, refl, subst, subst⁻¹}
-use lib.ListN.{getD, set}
+use lib.ListN.{length, getD, set}
 use Rattle.rules.specs.declared.Answer.{Answer}
 use Rattle.rules.specs.Heap.{Heap, tables, cells, queued, running, rootAt, queueAt, setRoot, setFlags, setQueue, setRunning}
 use Rattle.rules.specs.Sound.{Ready}
 use Rattle.rules.specs.Release.{start, release}
 use Rattle.rules.specs.Refusals.{isFresh}
 use Rattle.rules.specs.Refusals.Call.{FINISH}
-use Rattle.rules.specs.Calls.{leaveQueue, finishRun, act, Did}
+use Rattle.rules.specs.Calls.{leaveQueue, finishRun, act}
 use Rattle.laws.specs.Lists.Tables.{inside}
 use Rattle.laws.specs.Sound.But.{SoundBut}
 use Rattle.laws.specs.Sound.Facts.{ready-facts}
 use Rattle.laws.specs.Calls.Cases.{finish-goes}
+use Rattle.laws.specs.Calls.Inner.{Ran}
 use Rattle.laws.specs.Calls.Finish.{head-cell, head-object, leave-sound}
 use Rattle.release.specs.Write.{WorkFinished}
 use Rattle.finalizers.specs.Finish.{Popped, Leaves, BothReleasable}
-use Rattle.release.proofs.Written.{wrote-did}
+use Rattle.release.proofs.Written.{wrote-ran}
 use Rattle.finalizers.proofs.Both.{both-releasable}
 
 -- the writes
@@ -65,10 +66,11 @@ module _ (h : Heap) (ok : Ready h) (busy : running h ≢ 0) where
         (subst⁻¹ (λ (g : Heap). SoundBut g (rootAt h (running h - 1) ∷ queueAt h 0 ∷ [])) left (leave-sound h sound-before busy)))
 
     -- once they are off, the call is done
-    pub finish-did : {i : ℕ} (k₂ f₂ n₂ s₂ q₂ t₂ : List ℕ) (a : Answer) → i ≡ running h - 1
-        → ((roots : List ℕ) → WorkFinished (release (release (start (tables (h .kind) f (h .count) (h .slots) roots q t)) (rootAt h i)) (queueAt h 0)) k₂ f₂ n₂ s₂ roots q₂ t₂ a)
-        → Did FINISH h (tables k₂ f₂ n₂ s₂ r q₂ t₂) a
+    pub finish-ran : {i : ℕ} (k₂ f₂ n₂ s₂ q₂ t₂ room l₂ : List ℕ) (a : Answer) → i ≡ running h - 1 → length k₂ ≡ cells h
+        → ((roots : List ℕ) → WorkFinished (release (release (start (tables (h .kind) f (h .count) (h .slots) roots q t)) (rootAt h i)) (queueAt h 0))
+        k₂ f₂ n₂ s₂ roots q₂ t₂ room l₂ a)
+        → Ran FINISH h room (tables k₂ f₂ n₂ s₂ r q₂ t₂) l₂ a
     unfolding act isFresh finishRun
-    finish-did k₂ f₂ n₂ s₂ q₂ t₂ a run w =
-        wrote-did ok refl (finish-goes h busy) refl
-        (subst (λ (g : Heap). WorkFinished (release (release (start g) (rootAt h (running h - 1))) (queueAt h 0)) k₂ f₂ n₂ s₂ r q₂ t₂ a) left (rw run at (w r)))
+    finish-ran k₂ f₂ n₂ s₂ q₂ t₂ room l₂ a run size w =
+        wrote-ran ok refl (finish-goes h busy) refl size
+        (subst (λ (g : Heap). WorkFinished (release (release (start g) (rootAt h (running h - 1))) (queueAt h 0)) k₂ f₂ n₂ s₂ r q₂ t₂ room l₂ a) left (rw run at (w r)))

@@ -1,11 +1,11 @@
 -- What START's code writes and answers is what START does; the count of the queue's head can rise.
 -- Assumes nothing.
-use Prim.Native.Nat.{ℕ, _+_, _-_, _≤_}
+use Prim.Native.Nat.{ℕ, suc, _+_, _-_, _≤_}
 use native.Mathlib.Numerals.{add-one}
 use native.Mathlib.Omega.{arith}
-use mathlib.Core.List.{List}
+use mathlib.Core.List.{List, map}
 use mathlib.Core.Path.{_≡_, refl, ap, _∙_}
-use lib.ListN.{set}
+use lib.ListN.{length, take, set}
 use Rattle.rules.specs.Heap.{Heap, tables, queued, kindOf, queueAt, setRoot, setRunning}
 use Rattle.rules.specs.Sound.{Ready}
 use Rattle.rules.specs.Release.{raise, incref}
@@ -34,3 +34,8 @@ module _ (h : Heap) where
     pub start-answer : answers 0 0 0 0 ≡ act h (START r) .answer
     unfolding act done
     start-answer = refl
+
+    -- no cell is freed
+    pub start-lists : (room : List ℕ) → take (length (act h (START r) .freed)) room ≡ map suc (act h (START r) .freed)
+    unfolding act done
+    start-lists room = refl

@@ -7,7 +7,7 @@ use mathlib.Core.Path.{_≡_}
 use lib.ListN.{length, getD, set, drop}
 use Rattle.numbers.specs.declared.root.RootNumber.{RootNumber}
 use Rattle.numbers.specs.declared.root.RootNumber.the-variants as RootIs
-use Rattle.laws.specs.Release.Serve.{Settled}
+use Rattle.laws.specs.Release.Balance.{Draining}
 use Rattle.release.specs.Release.{begun}
 
 -- the running root by what control says of it: its number plus 1, or 0 for none
@@ -38,4 +38,4 @@ pub record Leaves (flags roots queue control : List ℕ) (head running : ℕ) : 
 -- two references are counted and stand nowhere
 pub record BothReleasable (kind flags count slots queue control : List ℕ) (first second : ℕ) : Type 0 where
   pub outside : List ℕ
-  pub settled : Settled (begun kind flags count slots queue control) (first ∷ second ∷ outside)
+  pub draining : Draining (begun kind flags count slots queue control) [] (first ∷ second ∷ outside)

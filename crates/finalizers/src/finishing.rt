@@ -6,18 +6,20 @@ ghost use lib.ListN.{length, getD};
 ghost use Rattle.rules.specs.Heap.{tables};
 ghost use Rattle.rules.specs.Sound.{Ready};
 ghost use Rattle.rules.specs.Release.{start, release};
-ghost use Rattle.rules.specs.Calls.{leaveQueue, Did};
+ghost use Rattle.rules.specs.Calls.{leaveQueue};
 ghost use Rattle.rules.specs.Refusals.Call.{FINISH};
+ghost use Rattle.laws.specs.Calls.Inner.{Ran};
 ghost use Rattle.release.specs.Write.{WorkFinished};
 ghost use Rattle.finalizers.specs.Finish.{AsRunning, Waits, Popped, Leaves, BothReleasable};
+use answers::finished;
 use answers::refuse;
 use numbers::cell::Cell;
 use numbers::cell::CellNumber;
 use numbers::root::Root;
 use numbers::root::RootNumber;
 use release::release;
+use release::release_unlisted;
 use rules::Answer;
-use rules::DONE;
 use rules::IDLE;
 
 // The running root, if there is one.
@@ -68,7 +70,8 @@ fn leave(
     roots[running.index()] = 0;
 }
 
-// Two full take-offs that end a call, one after the other: the answer says what both freed and, by how the queue grew, what both queued.
+// Two full take-offs that end a call, one after the other: the second lists the cells that it frees behind those of the first. The answer says what
+// both freed and, by how the queue grew, what both queued.
 fn take_off_both(
     kind: &mut [u16],
     flags: &mut [u16],
@@ -76,23 +79,35 @@ fn take_off_both(
     slots: &mut [u16],
     queue: &mut [u16],
     control: &mut [u16],
+    freed: &mut [u16],
     first: u16,
     second: u16,
 ) -> Answer
     requires { ⌜ BothReleasable (now kind) (now flags) (now count) (now slots) (now queue) (now control) first second ⌝ }
     ensures { λ a. ⌜ ((roots : List ℕ) → WorkFinished (release (release (start (tables (now (kind .entry)) (now (flags .entry)) (now (count .entry)) (now (slots .entry)) roots (now (queue .entry)) (now (control .entry)))) first) second)
-        (now (kind .exit)) (now (flags .exit)) (now (count .exit)) (now (slots .exit)) roots (now (queue .exit)) (now (control .exit)) a) ⌝ }
+        (now (kind .exit)) (now (flags .exit)) (now (count .exit)) (now (slots .exit)) roots (now (queue .exit)) (now (control .exit)) (now (freed .entry)) (now (freed .exit)) a) ⌝ }
 {
     let before = control[0];
-    let freed = release(kind, flags, count, slots, queue, control, first);
-    let more = release(kind, flags, count, slots, queue, control, second);
-    let after = control[0];
-    Answer {
-        refused: DONE,
-        freed: freed + more,
-        queued: after - before,
-        cell: 0,
+    if freed.len() < kind.len() {
+        let many = release_unlisted(kind, flags, count, slots, queue, control, first);
+        let more = release_unlisted(kind, flags, count, slots, queue, control, second);
+        let after = control[0];
+        return finished(many + more, after - before);
     }
+    let middle = release(kind, flags, count, slots, queue, control, freed, 0, first);
+    let end = release(
+        kind,
+        flags,
+        count,
+        slots,
+        queue,
+        control,
+        freed,
+        middle,
+        second,
+    );
+    let after = control[0];
+    finished(end, after - before)
 }
 
 // FINISH on a sound heap: the queue's head leaves it, finalised; the running root is emptied and no longer running, and the queue's own reference comes off.
@@ -104,21 +119,22 @@ pub fn finish(
     roots: &mut [u16],
     queue: &mut [u16],
     control: &mut [u16],
+    freed: &mut [u16],
 ) -> Answer
     requires { ⌜ Ready (tables (now kind) (now flags) (now count) (now slots) (now roots) (now queue) (now control)) ⌝ }
-    ensures { λ r. ⌜ Did FINISH
-        (tables (now (kind .entry)) (now (flags .entry)) (now (count .entry)) (now (slots .entry)) (now (roots .entry)) (now (queue .entry)) (now (control .entry)))
-        (tables (now (kind .exit)) (now (flags .exit)) (now (count .exit)) (now (slots .exit)) (now (roots .exit)) (now (queue .exit)) (now (control .exit))) r ⌝ }
+    ensures { λ r. ⌜ Ran FINISH
+        (tables (now (kind .entry)) (now (flags .entry)) (now (count .entry)) (now (slots .entry)) (now (roots .entry)) (now (queue .entry)) (now (control .entry))) (now (freed .entry))
+        (tables (now (kind .exit)) (now (flags .exit)) (now (count .exit)) (now (slots .exit)) (now (roots .exit)) (now (queue .exit)) (now (control .exit))) (now (freed .exit)) r ⌝ }
 {
     let RootNumber::Is(running) = running_root(control) else {
         return refuse(IDLE);
     };
     // While a root is running the queue's head names a cell, so that the check always passes.
-    let first = queue[0];
-    let CellNumber::Is(head) = Cell::of(first as usize - 1, flags.len()) else {
+    let bump = queue[0];
+    let CellNumber::Is(head) = Cell::of(bump as usize - 1, flags.len()) else {
         return refuse(IDLE);
     };
     let held = roots[running.index()];
     leave(flags, roots, queue, control, head, running);
-    take_off_both(kind, flags, count, slots, queue, control, held, first)
+    take_off_both(kind, flags, count, slots, queue, control, freed, held, bump)
 }

@@ -2,6 +2,8 @@
 pub mod Lowest
 pub mod Arguments
 pub mod Conditions
+pub mod Lent
+pub mod Did
 pub mod Judge
 pub mod Refusals
 pub mod NotRefused
@@ -11,6 +13,8 @@ pub mod Write
 pub mod New
 pub mod Start
 pub mod Finish
+pub mod Inner
+pub mod Outer
 pub mod Outcome
 pub mod Done
 pub mod Asked

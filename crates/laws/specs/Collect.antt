@@ -6,3 +6,4 @@ pub mod Append
 pub mod Live
 pub mod Left
 pub mod Swept
+pub mod Ordered

@@ -9,14 +9,17 @@ use Rattle.laws.specs.Release.Decref.{count-above-zero, in-range, queue-room, w
 use Rattle.laws.specs.Release.Serve.{work-list}
 use Rattle.release.specs.Steps.{ToComeOff}
 
-pub tail-fits : (k f n q t work : List ℕ) (tail : ℕ) (l : List ℕ) → ToComeOff k f n q t work tail l → tail ≤ 1024
-tail-fits k f n q t work tail l d = omega (arith, work-list _ _ _ _ (d .balanced), d .listed, d .balanced .fit .small)
+pub tail-fits : (k f n q t freed : List ℕ) (tail : ℕ) (l : List ℕ) → ToComeOff k f n q t freed tail l → tail ≤ length freed
+tail-fits k f n q t freed tail l d = omega (arith, work-list _ _ _ _ (d .balanced), d .listed, d .room)
+
+pub tail-small : (k f n q t freed : List ℕ) (tail : ℕ) (l : List ℕ) → ToComeOff k f n q t freed tail l → tail ≤ 1024
+tail-small k f n q t freed tail l d = omega (arith, work-list _ _ _ _ (d .balanced), d .listed, d .balanced .fit .small)
 
 -- a reference that is not empty names cell r - 1
-pub named-due : (k f n q t work : List ℕ) (tail r : ℕ) → ToComeOff k f n q t work tail (r ∷ []) → (r ≡ 0 → ⊥) → ToComeOff k f n q t work tail (suc (r - 1) ∷ [])
-named-due k f n q t work tail r d some = subst (λ (x : ℕ). ToComeOff k f n q t work tail (x ∷ [])) (omega arith) d
+pub named-due : (k f n q t freed : List ℕ) (tail r : ℕ) → ToComeOff k f n q t freed tail (r ∷ []) → (r ≡ 0 → ⊥) → ToComeOff k f n q t freed tail (suc (r - 1) ∷ [])
+named-due k f n q t freed tail r d some = subst (λ (x : ℕ). ToComeOff k f n q t freed tail (x ∷ [])) (omega arith) d
 
-module _ (k f n q t work : List ℕ) (tail c : ℕ) (d : ToComeOff k f n q t work tail (suc c ∷ [])) where
+module _ (k f n q t freed : List ℕ) (tail c : ℕ) (d : ToComeOff k f n q t freed tail (suc c ∷ [])) where
   pub range : c < length k
   range = in-range _ _ _ _ c (d .balanced)
 
@@ -27,5 +30,5 @@ module _ (k f n q t work : List ℕ) (tail c : ℕ) (d : ToComeOff k f n q t wor
   pub queue-free : getD n c 0 ≡ 1 → getD t 0 0 < length q
   queue-free e = omega (arith, queue-room _ _ _ _ c (d .balanced) e, d .balanced .fit .queue-size)
 
-  pub work-free : tail < length work
-  work-free = omega (arith, d .room, work-room _ _ _ _ c (d .balanced), d .listed, d .balanced .fit .small)
+  pub work-free : tail < length freed
+  work-free = omega (arith, d .room, work-room _ _ _ _ c (d .balanced), d .listed)

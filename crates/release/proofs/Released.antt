@@ -1,10 +1,11 @@
--- A full take-off in the code follows `release` of the rules: one `decref`, then `drain`.
+-- A full take-off in the code follows `release` of the rules: one `decref`, then `drain`; with a list in a lent table, or in room of its own.
 -- Assumes nothing.
 use mathlib.Core.Path.{_≡_, refl, sym, ap, _∙_, subst, subst⁻¹}
 use mathlib.Core.List.{List, [], _∷_, _++_, map, append-nil}
-use Prim.Native.Nat.{ℕ, suc}
+use Prim.Native.Nat.{ℕ, suc, _+_, _≤_, _<_}
 use native.Mathlib.Omega.{arith}
-use lib.ListN.{length, take}
+use lib.ListN.{length, take, length-append}
+use lib.Seq.{length-take-le}
 use Rattle.rules.specs.Heap.{Heap, tables}
 use Rattle.rules.specs.Release.{Work, start, decref, drain, release}
 use Rattle.laws.specs.Sound.But.{Fit}
@@ -13,31 +14,53 @@ use Rattle.laws.specs.Release.Decref.{beside-balanced}
 use Rattle.laws.specs.Release.Advance.{Frame, decref-frame}
 use Rattle.laws.specs.Release.Onto.{onto, decref-onto}
 use Rattle.laws.specs.Release.Beside.{beside, drain-beside}
-use Rattle.laws.specs.Release.Serve.{release-due, decref-draining, drain-empty}
-use Rattle.release.specs.Release.{begun, Releasable, WorkDone}
+use Rattle.laws.specs.Release.Serve.{work-list, release-due, decref-draining, Drained, drain-empty, release-drained, forget-draining}
+use Rattle.release.specs.Release.{begun, Releasable, WorkListed, WorkCounted, WorkDone}
 use Rattle.release.specs.Steps.{working, ToComeOff, CameOff, Drainable}
-use Rattle.release.proofs.Listing.{same-cells}
+use Rattle.release.proofs.Listing.{same-cells, listed-length, front-stays}
 
--- the tables' lengths
-pub fit-of : (k f n s q t : List ℕ) (r : ℕ) → Releasable k f n s q t r → Fit k f n q t
-unfolding start
-fit-of k f n s q t r d = d .settled .draining .balanced .fit
-
-module _ (k f n s q t : List ℕ) (r : ℕ) where
-  -- the reference is due, and the work list is empty
-  pub first-due : (w : List ℕ) → length w ≡ 1024 → Releasable k f n s q t r → ToComeOff k f n q t w 0 (r ∷ [])
+module _ (k f n s q t : List ℕ) (from r : ℕ) (d : Releasable k f n s q t from r) where
+  -- the tables' lengths
+  pub fit-of : Fit k f n q t
   unfolding start
-  first-due w size d = record {
+  fit-of = d .draining .balanced .fit
+
+  pub from-few : from ≤ length k
+  unfolding start
+  from-few = omega (arith, d .place, work-list _ _ _ _ (d .draining .balanced))
+
+  -- the cells that are freed before and now are distinct
+  pub all-few : from + length (release (begun k f n s q t) r .freed) ≤ length k
+  unfolding start
+  all-few =
+      let q : Drained (begun k f n s q t) (release (begun k f n s q t) r) (d .done) (d .outside) = release-drained _ r (d .done) (d .outside) (d .draining) in
+      omega (
+        arith,
+        d .place,
+        work-list _ _ _ _ (q .draining .balanced),
+        length-append (d .done) (q .cells),
+        q .advance .size,
+        ap length (q .advance .freed),
+      )
+
+  -- the same for a list of its own, where what the call has freed before is not listed
+  pub forgotten : Releasable k f n s q t 0 r
+  forgotten = record { outside = d .outside; done = []; place = refl; draining = forget-draining (d .draining) }
+
+  -- the reference is due, and nothing waits behind the cells that were freed before
+  pub first-due : (w : List ℕ) → length k ≤ length w → (tail : ℕ) → tail ≡ from → ToComeOff k f n q t w tail (r ∷ [])
+  unfolding start
+  first-due w room tail at = record {
     serving = [];
-    done = [];
+    done = d .done;
     pending = [];
     held = s ++ d .outside;
-    room = size;
-    listed = refl;
-    balanced = beside-balanced _ _ _ _ [] [] [] [] (release-due _ r (d .outside) (d .settled .draining));
+    room = room;
+    listed = omega (arith, d .place);
+    balanced = beside-balanced _ _ _ _ [] [] [] [] (release-due _ r (d .done) (d .outside) (d .draining));
   }
 
-  module _ (n′ q′ t′ w w′ : List ℕ) (x : ℕ) (e : CameOff (decref (working k f n [] q t []) r) n′ q′ t′ w 0 w′ x) where
+  module _ (w n′ q′ t′ w′ : List ℕ) (x : ℕ) (e : CameOff (decref (working k f n [] q t []) r) n′ q′ t′ w from w′ x) where
     -- the cells that the first step queued, and those that wait after it
     joined : List ℕ
     joined = decref (working k f n [] q t []) r .queued
@@ -63,45 +86,77 @@ module _ (k f n s q t : List ℕ) (r : ℕ) where
     unfolding release start
     release-is = ap (drain (length k)) first-is ∙ drain-beside [] [] joined (length k) (working k f n′ s q′ t′ waiting)
 
-    -- what serving the cells that wait leaves is what the take-off leaves
-    drained : (k′ f′ n″ s′ q″ t″ : List ℕ) (d : ℕ) → WorkDone (drain (length k) (working k f n′ s q′ t′ waiting)) k′ f′ n″ s′ q″ t″ d
-        → WorkDone (release (begun k f n s q t) r) k′ f′ n″ s′ q″ t″ d
-    unfolding beside onto
-    drained k′ f′ n″ s′ q″ t″ d h =
-        subst⁻¹ (λ (v : Work). WorkDone v k′ f′ n″ s′ q″ t″ d) release-is
-        (record {
-          heap = ap (λ (g : Heap). tables (g .kind) (g .flags) (g .count) (g .slots) [] (g .queue) (g .control)) (h .heap);
-          freed = h .freed;
-          few = h .few;
-        })
-
-    -- the cells that wait are those that the work list's entries name
-    pub then-drain : (k′ f′ n″ s′ q″ t″ : List ℕ) (d : ℕ)
-        → ((cells : List ℕ) → take x w′ ≡ map suc cells → WorkDone (drain (length k) (working k f n′ s q′ t′ cells)) k′ f′ n″ s′ q″ t″ d)
-        → WorkDone (release (begun k f n s q t) r) k′ f′ n″ s′ q″ t″ d
-    unfolding waiting
-    then-drain k′ f′ n″ s′ q″ t″ d h = drained k′ f′ n″ s′ q″ t″ d (h waiting (e .listed))
-
     -- nothing joined the work list
-    pub at-once : x ≡ 0 → WorkDone (release (begun k f n s q t) r) k f n′ s q′ t′ 0
-    unfolding waiting
-    at-once z =
-        let none : waiting ≡ [] = same-cells waiting [] (sym (e .listed) ∙ ap (λ (i : ℕ). take i w′) z) in
-        drained k f n′ s q′ t′ 0
-        (subst⁻¹ (λ (v : Work). WorkDone v k f n′ s q′ t′ 0) (drain-empty (length k) (working k f n′ s q′ t′ waiting) none)
-        (record { heap = refl; freed = refl; few = omega arith }))
+    pub at-once : (many : ℕ) → many ≡ 0 → take x w′ ≡ take from w → WorkCounted (release (begun k f n s q t) r) k f n′ s q′ t′ many
+    unfolding waiting beside onto
+    at-once many zero same =
+        let none : waiting ≡ [] = same-cells (take from w) waiting [] (sym (e .listed) ∙ same ∙ sym (append-nil _)) in
+        subst⁻¹ (λ (v : Work). WorkCounted v k f n′ s q′ t′ many)
+        (release-is ∙ ap (beside [] [] joined) (drain-empty (length k) (working k f n′ s q′ t′ waiting) none))
+        (record { heap = refl; freed = zero })
 
-    -- all of the list, up to its end, is to be served
-    pub drainable : (end : ℕ) → end ≡ x → Releasable k f n s q t r → length w′ ≡ 1024 → Drainable k f n′ s q′ t′ w′ end
-    unfolding beside onto start waiting
-    drainable end is d size =
-        let a : Draining (beside [] [] joined (working k f n′ s q′ t′ waiting)) [] (d .outside) =
-        subst (λ (v : Work). Draining v [] (d .outside)) first-is (decref-draining _ r (d .outside) (d .settled .draining)) in
-        record {
-          outside = d .outside;
-          pending = waiting;
-          room = size;
-          bound = omega (arith, e .bound);
-          listed = ap (λ (i : ℕ). take i w′) is ∙ e .listed;
-          draining = record { slots = a .slots; plainSlots = a .plainSlots; balanced = beside-balanced _ _ _ _ s [] [] [] (a .balanced) };
-        }
+    module _ (room : length k ≤ length w) (same : length w′ ≡ length w) where
+      -- the entries of the cells that were freed before stay
+      still : take from w′ ≡ take from w
+      unfolding waiting
+      still =
+          let l : length (take from w) ≡ from = length-take-le from w (omega (arith, from-few)) in
+          ap (λ (i : ℕ). take i w′) (sym l) ∙ front-stays w′ (take from w) waiting x (omega (arith, e .bound, same)) (e .listed)
+
+      -- behind them the cells that wait are named
+      waits : take x w′ ≡ take from w′ ++ map suc waiting
+      unfolding waiting
+      waits = e .listed ∙ ap (λ (l : List ℕ). l ++ map suc waiting) (sym still)
+
+      -- all of the list, up to its end, is to be served
+      pub drainable : (head tail : ℕ) → head ≡ from → tail ≡ x → Drainable k f n′ s q′ t′ w′ head tail
+      unfolding beside onto start
+      drainable head tail first is =
+          let a : Draining (beside [] [] joined (working k f n′ s q′ t′ waiting)) (d .done) (d .outside) =
+          subst (λ (v : Work). Draining v (d .done) (d .outside)) first-is (decref-draining _ r (d .done) (d .outside) (d .draining)) in
+          record {
+            outside = d .outside;
+            done = d .done;
+            pending = waiting;
+            room = omega (arith, room, same);
+            place = first ∙ d .place;
+            bound = omega (arith, e .bound, same);
+            listed = ap (λ (i : ℕ). take i w′) is ∙ waits ∙ ap (λ (i : ℕ). take i w′ ++ map suc waiting) (sym first);
+            draining = record { slots = a .slots; plainSlots = a .plainSlots; balanced = beside-balanced _ _ _ _ s [] [] [] (a .balanced) };
+          }
+
+      -- what serving the cells that wait leaves is what the take-off leaves
+      pub then-drain : (k′ f′ n″ s′ q″ t″ w″ : List ℕ) (end : ℕ)
+          → ((cells : List ℕ) → take x w′ ≡ take from w′ ++ map suc cells → WorkListed (drain (length k) (working k f n′ s q′ t′ cells)) k′ f′ n″ s′ q″ t″ w′ from w″ end)
+          → WorkListed (release (begun k f n s q t) r) k′ f′ n″ s′ q″ t″ w from w″ end
+      unfolding beside onto
+      then-drain k′ f′ n″ s′ q″ t″ w″ end g =
+          let v : Work = drain (length k) (working k f n′ s q′ t′ waiting) in
+          let h : WorkListed v k′ f′ n″ s′ q″ t″ w′ from w″ end = g waiting waits in
+          subst⁻¹ (λ (u : Work). WorkListed u k′ f′ n″ s′ q″ t″ w from w″ end) release-is
+          (record {
+            heap = ap (λ (u : Heap). tables (u .kind) (u .flags) (u .count) (u .slots) [] (u .queue) (u .control)) (h .heap);
+            listed = h .listed ∙ ap (λ (l : List ℕ). l ++ map suc (v .freed)) still;
+            few = h .few;
+          })
+
+-- ---- with a list or without
+
+module _ {v : Work} {k f n s q t before after : List ℕ} {from end : ℕ} (fits : from ≤ length before) (room : length k ≤ length after)
+    (h : WorkListed v k f n s q t before from after end) where
+  -- how many cells a list names
+  pub listed-many : end ≡ from + length (v .freed)
+  listed-many = omega (arith, listed-length after (take from before) (v .freed) end (omega (arith, h .few)) (h .listed), length-take-le from before fits)
+
+  pub with-list : WorkDone v k f n s q t before from after end
+  with-list = record { heap = h .heap; many = listed-many; few = h .few; listed = λ r. h .listed }
+
+-- the list made in room of its own is counted
+pub counted : {v : Work} {k f n s q t room after : List ℕ} {end d : ℕ} → length k ≤ length after → WorkListed v k f n s q t room 0 after end → d ≡ end
+    → WorkCounted v k f n s q t d
+counted {room = room} l h e = record { heap = h .heap; freed = omega (arith, listed-many {before = room} (omega arith) l h) }
+
+-- no room, and no list
+pub without-list : {v : Work} {k f n s q t before : List ℕ} {from end d : ℕ} → WorkCounted v k f n s q t d → end ≡ from + d → end ≤ length k
+    → length before < length k → WorkDone v k f n s q t before from before end
+without-list h is few none = record { heap = h .heap; many = omega (arith, h .freed); few = few; listed = λ room. absurd (omega arith) }

@@ -81,14 +81,14 @@ module _ (k f n q t : List ℕ) (r : ℕ) (n′ q′ t′ before : List ℕ) (ta
       let b : Balanced (onto [] [] (d .pending) [] [] v) (d .serving) (d .done) (rem ++ d .held) =
       subst (λ (x : Work). Balanced x (d .serving) (d .done) (rem ++ d .held)) g (decref-balanced (working k f n [] q t (d .pending)) (d .serving) (d .done) r (rem ++ d .held) (d .balanced)) in
       let grown : length (take next after) ≡ length (take tail before) + length (map suc (v .pending)) = ap length (e .listed) ∙ length-append (take tail before) (map suc (v .pending)) in
-      let there : length (take next after) ≡ next = length-take-le next after (omega (arith, e .bound, d .room)) in
-      let here : length (take tail before) ≡ tail = length-take-le tail before (omega (arith, tail-fits _ _ _ _ _ _ _ _ d, d .room)) in
+      let there : length (take next after) ≡ next = length-take-le next after (omega (arith, e .bound, same)) in
+      let here : length (take tail before) ≡ tail = length-take-le tail before (tail-fits _ _ _ _ _ _ _ _ d) in
       record {
         serving = d .serving;
         done = d .done;
         pending = d .pending ++ v .pending;
         held = d .held;
-        room = same ∙ d .room;
+        room = omega (arith, same, d .room);
         listed = omega (
           arith,
           d .listed,
@@ -108,17 +108,17 @@ module _ (k f n q t : List ℕ) (r : ℕ) (n′ q′ t′ before : List ℕ) (ta
       }
 
 -- The loop over a part of the slots, at index i: what is left of the part is due, and leads where the whole part does.
-pub record Going (kind flags first-count slots first-queue first-control first-work : List ℕ) (tail from end : ℕ)
-    (count queue control work : List ℕ) (t i : ℕ) : Type 0 where
+pub record Going (kind flags first-count slots first-queue first-control first-freed : List ℕ) (tail from end : ℕ)
+    (count queue control freed : List ℕ) (t i : ℕ) : Type 0 where
   pub count-kept : length count ≡ length first-count
   pub queue-kept : length queue ≡ length first-queue
   pub control-kept : length control ≡ length first-control
-  pub work-kept : length work ≡ length first-work
+  pub freed-kept : length freed ≡ length first-freed
   pub within : i ≤ end
   pub inside : end ≤ length slots
-  pub due : ToComeOff kind flags count queue control work t (slice i end slots)
-  pub toward : Toward (decrefs (working kind flags first-count [] first-queue first-control []) (slice from end slots)) (take tail first-work)
-      (decrefs (working kind flags count [] queue control []) (slice i end slots)) (take t work)
+  pub due : ToComeOff kind flags count queue control freed t (slice i end slots)
+  pub toward : Toward (decrefs (working kind flags first-count [] first-queue first-control []) (slice from end slots)) (take tail first-freed)
+      (decrefs (working kind flags count [] queue control []) (slice i end slots)) (take t freed)
 
 module _ (k f n₀ s q₀ t₀ w₀ : List ℕ) (tail from end : ℕ) where
   pub go-start : from ≤ end → end ≤ length s → ToComeOff k f n₀ q₀ t₀ w₀ tail (slice from end s) → Going k f n₀ s q₀ t₀ w₀ tail from end n₀ q₀ t₀ w₀ tail from
@@ -126,7 +126,7 @@ module _ (k f n₀ s q₀ t₀ w₀ : List ℕ) (tail from end : ℕ) where
     count-kept = refl;
     queue-kept = refl;
     control-kept = refl;
-    work-kept = refl;
+    freed-kept = refl;
     within = h;
     inside = e;
     due = d;
@@ -160,7 +160,7 @@ module _ (k f n₀ s q₀ t₀ w₀ : List ℕ) (tail from end : ℕ) where
       count-kept = a ∙ g .count-kept;
       queue-kept = b ∙ g .queue-kept;
       control-kept = c ∙ g .control-kept;
-      work-kept = d ∙ g .work-kept;
+      freed-kept = d ∙ g .freed-kept;
       within = omega arith;
       inside = g .inside;
       due = rw add-one (due-step k f n q t (getD s j 0) n′ q′ t′ w x w′ x′ e (slice (suc i) end s) next-due d);
@@ -180,4 +180,10 @@ module _ (k f n₀ s q₀ t₀ w₀ : List ℕ) (tail from end : ℕ) where
       let none : slice i end s ≡ [] = drop-of-length-le (take end s) {i = i} (omega (arith, length-take-le end s (g .inside))) in
       let z : Toward (decrefs (working k f n₀ [] q₀ t₀ []) (slice from end s)) (take tail w₀) (working k f n [] q t []) (take x w) =
       subst (λ (l : List ℕ). Toward (decrefs (working k f n₀ [] q₀ t₀ []) (slice from end s)) (take tail w₀) (decrefs (working k f n [] q t []) l) (take x w)) none (g .toward) in
-      record { count = sym (z .count); queue = sym (z .queue); control = sym (z .control); listed = sym (z .pending ∙ append-nil (take x w)); bound = tail-fits _ _ _ _ _ _ _ _ (g .due) }
+      record {
+        count = sym (z .count);
+        queue = sym (z .queue);
+        control = sym (z .control);
+        listed = sym (z .pending ∙ append-nil (take x w));
+        bound = omega (arith, tail-fits _ _ _ _ _ _ _ _ (g .due), g .freed-kept);
+      }

@@ -1,10 +1,11 @@
 -- The loop over the work list follows `drain` of the rules.
 -- Assumes nothing.
 use mathlib.Core.Path.{_≡_, refl, sym, ap, _∙_, subst}
-use mathlib.Core.List.{List, [], _∷_, _++_, map, map-append, append-assoc, append-nil}
+use mathlib.Core.List.{List, [], _∷_, _++_, map, append-assoc, append-nil}
 use Prim.Native.Nat.{ℕ, suc, _+_, _-_, _≤_, _<_}
 use native.Mathlib.Omega.{arith}
-use lib.ListN.{length, getD, take, length-append}
+use lib.ListN.{length, getD, take, length-append, length-map}
+use lib.Seq.{length-take-le}
 use Rattle.rules.specs.Heap.{Heap, tables, slotsOf, emptied, wipe}
 use Rattle.rules.specs.Release.{Work, decrefs, withPending, retire, serve, drain}
 use Rattle.laws.specs.Lists.Occ.{occ-empty, occ-length}
@@ -15,45 +16,50 @@ use Rattle.laws.specs.Release.Onto.{onto, decrefs-onto}
 use Rattle.laws.specs.Release.Beside.{beside, drain-beside}
 use Rattle.laws.specs.Release.Serve.{work-list, served, serve-range, serve-slots, serve-begin, serve-draining, drain-empty, drain-step}
 use Rattle.freeing.specs.Freeing.{CellInTables, CellFreed}
-use Rattle.release.specs.Release.{WorkDone}
+use Rattle.release.specs.Release.{WorkListed}
 use Rattle.release.specs.Steps.{working, SlotsToComeOff, CameOff, Drainable}
-use Rattle.release.proofs.Listing.{Oldest, oldest, same-cells, listed-length}
+use Rattle.release.proofs.Listing.{Oldest, oldest, same-cells, joins, listed-length}
 
 -- a work that has no roots drains to one that has none
 drain-rootless : (m : ℕ) (k f n s q t p : List ℕ) → beside [] [] [] (drain m (working k f n s q t p)) .heap ≡ drain m (working k f n s q t p) .heap
 unfolding beside
 drain-rootless m k f n s q t p = sym (ap (λ (w : Work). w .heap) (drain-beside [] [] [] m (working k f n s q t p)))
 
--- goal's tables are v's, and goal has freed `more` cells more
-pub record Reaches (goal v : Work) (more : ℕ) : Type 0 where
+-- goal's tables are v's, and goal has freed the cells `gone` before those of v
+pub record Reaches (goal v : Work) (gone : List ℕ) : Type 0 where
   pub heap : goal .heap ≡ v .heap
-  pub freed : length (goal .freed) ≡ more + length (v .freed)
+  pub freed : goal .freed ≡ gone ++ v .freed
 
--- The loop at `head`: the entries before it name the cells that are gone, those from it to x the cells that wait, and what is left to do leads
--- to the goal, which is what the list that the loop began with leads to.
-pub record Serving (k₀ f₀ n₀ s₀ q₀ t₀ w₀ : List ℕ) (tail : ℕ) (k f n s q t w : List ℕ) (x head : ℕ) : Type 0 where
+-- The loop at `head`: behind the first `from` entries the table names the cells `gone`, which this loop has freed, and from `head` to x those that
+-- wait. `done` are the cells that the call has freed, with those. What is left to do leads to the goal, which is what the list that the loop
+-- began with leads to.
+pub record Serving (k₀ f₀ n₀ s₀ q₀ t₀ w₀ : List ℕ) (from tail : ℕ) (k f n s q t w : List ℕ) (x head : ℕ) : Type 0 where
   pub kind-kept : length k ≡ length k₀
   pub flags-kept : length f ≡ length f₀
   pub count-kept : length n ≡ length n₀
   pub slots-kept : length s ≡ length s₀
   pub queue-kept : length q ≡ length q₀
   pub control-kept : length t ≡ length t₀
-  pub work-kept : length w ≡ length w₀
-  pub room : length w ≡ 1024
-  pub bound : x ≤ 1024
+  pub freed-kept : length w ≡ length w₀
+  pub room : length k ≤ length w
+  pub bound : x ≤ length w
   pub outside : List ℕ
   pub first : List ℕ
+  pub done : List ℕ
   pub gone : List ℕ
   pub pending : List ℕ
-  pub begun : take tail w₀ ≡ map suc first
-  pub listed : take x w ≡ map suc (gone ++ pending)
-  pub place : head ≡ length gone
-  pub draining : Draining (working k f n s q t pending) gone outside
-  pub reaches : Reaches (drain (length k₀) (working k₀ f₀ n₀ s₀ q₀ t₀ first)) (drain (length k₀ - head) (working k f n s q t pending)) head
+  pub begun : take tail w₀ ≡ take from w₀ ++ map suc first
+  pub ahead : length (take from w₀) ≡ from
+  pub listed : take x w ≡ take from w₀ ++ map suc (gone ++ pending)
+  pub place : head ≡ length done
+  pub behind : head ≡ from + length gone
+  pub draining : Draining (working k f n s q t pending) done outside
+  pub reaches : Reaches (drain (length k₀) (working k₀ f₀ n₀ s₀ q₀ t₀ first)) (drain (length k₀ - length gone) (working k f n s q t pending)) gone
 
-pub serve-start : (k f n s q t w : List ℕ) (tail head : ℕ) → Drainable k f n s q t w tail → head ≡ 0 → Serving k f n s q t w tail k f n s q t w tail head
-serve-start k f n s q t w tail head d at =
-    let fuel : length k - head ≡ length k = omega arith in
+pub serve-start : (k f n s q t w : List ℕ) (from tail head : ℕ) → Drainable k f n s q t w from tail → head ≡ from
+    → Serving k f n s q t w from tail k f n s q t w tail head
+serve-start k f n s q t w from tail head d at =
+    let fuel : length k - 0 ≡ length k = omega arith in
     record {
       kind-kept = refl;
       flags-kept = refl;
@@ -61,35 +67,48 @@ serve-start k f n s q t w tail head d at =
       slots-kept = refl;
       queue-kept = refl;
       control-kept = refl;
-      work-kept = refl;
+      freed-kept = refl;
       room = d .room;
       bound = d .bound;
       outside = d .outside;
       first = d .pending;
+      done = d .done;
       gone = [];
       pending = d .pending;
       begun = d .listed;
+      ahead = length-take-le from w (omega (arith, d .room, d .place, work-list _ _ _ _ (d .draining .balanced)));
       listed = d .listed;
-      place = at;
+      place = at ∙ d .place;
+      behind = omega arith;
       draining = d .draining;
-      reaches = rw fuel (record { heap = refl; freed = omega arith });
+      reaches = rw fuel (record { heap = refl; freed = refl });
     }
 
-module _ (k₀ f₀ n₀ s₀ q₀ t₀ w₀ : List ℕ) (tail : ℕ) (k f n s q t w : List ℕ) (x head : ℕ)
-    (g : Serving k₀ f₀ n₀ s₀ q₀ t₀ w₀ tail k f n s q t w x head) where
-  within : x ≤ length w
-  within = omega (arith, g .bound, g .room)
-
+module _ (k₀ f₀ n₀ s₀ q₀ t₀ w₀ : List ℕ) (from tail : ℕ) (k f n s q t w : List ℕ) (x head : ℕ)
+    (g : Serving k₀ f₀ n₀ s₀ q₀ t₀ w₀ from tail k f n s q t w x head) where
   -- how many wait
   end-is : x ≡ head + length (g .pending)
-  end-is = omega (arith, listed-length w (g .gone ++ g .pending) x within (g .listed), length-append (g .gone) (g .pending), g .place)
+  end-is = omega (
+    arith,
+    listed-length w (take from w₀) (g .gone ++ g .pending) x (g .bound) (g .listed),
+    length-append (g .gone) (g .pending),
+    g .ahead,
+    g .behind,
+  )
 
-  pub ahead : head ≤ x
-  ahead = omega (arith, end-is)
+  -- no more cells are listed than there are
+  end-fits : x ≤ length k
+  end-fits = omega (arith, end-is, g .place, work-list _ _ _ _ (g .draining .balanced))
+
+  pub end-small : x ≤ 1024
+  end-small = omega (arith, end-fits, g .draining .balanced .fit .small)
 
   module _ (more : head < x) where
     front : Oldest (getD w head 0) (g .pending)
-    front = oldest w (g .gone) (g .pending) x head within (g .listed) (g .place) more
+    front =
+        let here : head ≡ length (take from w₀ ++ map suc (g .gone)) =
+        omega (arith, g .behind, g .ahead, length-append (take from w₀) (map suc (g .gone)), length-map (g .gone) suc) in
+        oldest w (take from w₀ ++ map suc (g .gone)) (g .pending) x head (g .bound) (g .listed ∙ sym (joins (take from w₀) (g .gone) (g .pending))) here more
 
     -- the entry at `head` names a cell
     pub some-named : 1 ≤ getD w head 0
@@ -127,7 +146,7 @@ module _ (k₀ f₀ n₀ s₀ q₀ t₀ w₀ : List ℕ) (tail : ℕ) (k f n s q
         plainSlots = g .draining .plainSlots;
         due = record {
           serving = c ∷ [];
-          done = g .gone;
+          done = g .done;
           pending = rest;
           held = emptied s c ++ g .outside;
           room = g .room;
@@ -136,8 +155,8 @@ module _ (k₀ f₀ n₀ s₀ q₀ t₀ w₀ : List ℕ) (tail : ℕ) (k f n s q
         };
       }
 
-      left : length k₀ - head ≡ suc (length k₀ - (head + 1))
-      left = omega (arith, work-list _ _ _ _ (g .draining .balanced), g .place, ap length next, g .kind-kept)
+      left : length k₀ - length (g .gone) ≡ suc (length k₀ - length (g .gone ++ (c ∷ [])))
+      left = omega (arith, end-fits, end-is, ap length next, g .behind, g .kind-kept, length-append (g .gone) (c ∷ []))
 
       module _ (n′ q′ t′ w′ : List ℕ) (x′ : ℕ) (e : CameOff (decrefs (working k f n [] q t []) (slotsOf s c)) n′ q′ t′ w x w′ x′)
           (k′ f′ n″ s′ : List ℕ) (z : CellFreed k f n′ s c k′ f′ n″ s′) (kept : length w′ ≡ length w) where
@@ -145,14 +164,14 @@ module _ (k₀ f₀ n₀ s₀ q₀ t₀ w₀ : List ℕ) (tail : ℕ) (k f n s q
         lowered = decrefs (working k f n [] q t []) (slotsOf s c)
 
         -- the cell is gone, and those that its slots added wait after the others
-        next-listed : take x′ w′ ≡ map suc ((g .gone ++ (c ∷ [])) ++ (rest ++ lowered .pending))
+        next-listed : take x′ w′ ≡ take from w₀ ++ map suc ((g .gone ++ (c ∷ [])) ++ (rest ++ lowered .pending))
         unfolding lowered
         next-listed =
             let regroup : (g .gone ++ g .pending) ++ lowered .pending ≡ (g .gone ++ (c ∷ [])) ++ (rest ++ lowered .pending) =
             ap (λ (l : List ℕ). (g .gone ++ l) ++ lowered .pending) next
             ∙ append-assoc (g .gone) (c ∷ rest) (lowered .pending) ∙ sym (append-assoc (g .gone) (c ∷ []) (rest ++ lowered .pending)) in
             e .listed ∙ ap (λ (l : List ℕ). l ++ map suc (lowered .pending)) (g .listed)
-            ∙ sym (map-append suc (g .gone ++ g .pending) (lowered .pending)) ∙ ap (map suc) regroup
+            ∙ joins (take from w₀) (g .gone ++ g .pending) (lowered .pending) ∙ ap (λ (l : List ℕ). take from w₀ ++ map suc l) regroup
 
         -- the rules' state with the slots come off
         served-is : served (working k f n s q t (g .pending)) c rest ≡ onto s [] rest [] [] lowered
@@ -179,28 +198,33 @@ module _ (k₀ f₀ n₀ s₀ q₀ t₀ w₀ : List ℕ) (tail : ℕ) (k f n s q
               queued = sym (append-nil (lowered .queued)) i;
             })
 
-        drain-is : drain (length k₀ - head) (working k f n s q t (g .pending))
-            ≡ beside [] (c ∷ []) (lowered .queued) (drain (length k₀ - (head + 1)) (working k′ f′ n″ s′ q′ t′ (rest ++ lowered .pending)))
+        -- how many turns are left after this one
+        fuel : ℕ
+        fuel = length k₀ - length (g .gone ++ (c ∷ []))
+
+        drain-is : drain (length k₀ - length (g .gone)) (working k f n s q t (g .pending))
+            ≡ beside [] (c ∷ []) (lowered .queued) (drain fuel (working k′ f′ n″ s′ q′ t′ (rest ++ lowered .pending)))
+        unfolding fuel
         drain-is =
             ap (λ (m : ℕ). drain m (working k f n s q t (g .pending))) left
-            ∙ drain-step (length k₀ - (head + 1)) (working k f n s q t (g .pending)) c rest next
-            ∙ ap (drain (length k₀ - (head + 1))) serve-is
-            ∙ drain-beside [] (c ∷ []) (lowered .queued) (length k₀ - (head + 1)) (working k′ f′ n″ s′ q′ t′ (rest ++ lowered .pending))
+            ∙ drain-step fuel (working k f n s q t (g .pending)) c rest next
+            ∙ ap (drain fuel) serve-is
+            ∙ drain-beside [] (c ∷ []) (lowered .queued) fuel (working k′ f′ n″ s′ q′ t′ (rest ++ lowered .pending))
 
-        next-draining : Draining (working k′ f′ n″ s′ q′ t′ (rest ++ lowered .pending)) (g .gone ++ (c ∷ [])) (g .outside)
+        next-draining : Draining (working k′ f′ n″ s′ q′ t′ (rest ++ lowered .pending)) (g .done ++ (c ∷ [])) (g .outside)
         unfolding beside
         next-draining =
-            let d : Draining (beside [] (c ∷ []) (lowered .queued) (working k′ f′ n″ s′ q′ t′ (rest ++ lowered .pending))) (g .gone ++ (c ∷ [])) (g .outside) =
-            subst (λ (u : Work). Draining u (g .gone ++ (c ∷ [])) (g .outside)) serve-is (serve-draining _ _ _ _ _ next (g .draining)) in
+            let d : Draining (beside [] (c ∷ []) (lowered .queued) (working k′ f′ n″ s′ q′ t′ (rest ++ lowered .pending))) (g .done ++ (c ∷ [])) (g .outside) =
+            subst (λ (u : Work). Draining u (g .done ++ (c ∷ [])) (g .outside)) serve-is (serve-draining _ _ _ _ _ next (g .draining)) in
             record { slots = d .slots; plainSlots = d .plainSlots; balanced = beside-balanced _ _ _ _ s′ [] [] [] (d .balanced) }
 
         pub serve-on : length k′ ≡ length k → length f′ ≡ length f → length n″ ≡ length n → length s′ ≡ length s → length q′ ≡ length q → length t′ ≡ length t
-            → Serving k₀ f₀ n₀ s₀ q₀ t₀ w₀ tail k′ f′ n″ s′ q′ t′ w′ x′ (head + 1)
-        unfolding beside
+            → Serving k₀ f₀ n₀ s₀ q₀ t₀ w₀ from tail k′ f′ n″ s′ q′ t′ w′ x′ (head + 1)
+        unfolding beside fuel
         serve-on lk lf ln ls lq lt =
             let goal : Work = drain (length k₀) (working k₀ f₀ n₀ s₀ q₀ t₀ (g .first)) in
-            let r : Reaches goal (beside [] (c ∷ []) (lowered .queued) (drain (length k₀ - (head + 1)) (working k′ f′ n″ s′ q′ t′ (rest ++ lowered .pending)))) head =
-            subst (λ (u : Work). Reaches goal u head) drain-is (g .reaches) in
+            let last : Work = drain fuel (working k′ f′ n″ s′ q′ t′ (rest ++ lowered .pending)) in
+            let r : Reaches goal (beside [] (c ∷ []) (lowered .queued) last) (g .gone) = subst (λ (u : Work). Reaches goal u (g .gone)) drain-is (g .reaches) in
             record {
               kind-kept = lk ∙ g .kind-kept;
               flags-kept = lf ∙ g .flags-kept;
@@ -208,29 +232,40 @@ module _ (k₀ f₀ n₀ s₀ q₀ t₀ w₀ : List ℕ) (tail : ℕ) (k f n s q
               slots-kept = ls ∙ g .slots-kept;
               queue-kept = lq ∙ g .queue-kept;
               control-kept = lt ∙ g .control-kept;
-              work-kept = kept ∙ g .work-kept;
-              room = kept ∙ g .room;
-              bound = e .bound;
+              freed-kept = kept ∙ g .freed-kept;
+              room = omega (arith, lk, kept, g .room);
+              bound = omega (arith, e .bound, kept);
               outside = g .outside;
               first = g .first;
+              done = g .done ++ (c ∷ []);
               gone = g .gone ++ (c ∷ []);
               pending = rest ++ lowered .pending;
               begun = g .begun;
+              ahead = g .ahead;
               listed = next-listed;
-              place = omega (arith, g .place, length-append (g .gone) (c ∷ []));
+              place = omega (arith, g .place, length-append (g .done) (c ∷ []));
+              behind = omega (arith, g .behind, length-append (g .gone) (c ∷ []));
               draining = next-draining;
               reaches = record {
-                heap = r .heap ∙ drain-rootless (length k₀ - (head + 1)) k′ f′ n″ s′ q′ t′ (rest ++ lowered .pending);
-                freed = omega (arith, r .freed);
+                heap = r .heap ∙ drain-rootless fuel k′ f′ n″ s′ q′ t′ (rest ++ lowered .pending);
+                freed = r .freed ∙ sym (append-assoc (g .gone) (c ∷ []) (last .freed));
               };
             }
 
-  -- at the end nothing waits, and the goal is reached, which is what the cells that the first entries name lead to
-  pub serve-end : x ≤ head → (cells : List ℕ) → take tail w₀ ≡ map suc cells → WorkDone (drain (length k₀) (working k₀ f₀ n₀ s₀ q₀ t₀ cells)) k f n s q t head
-  serve-end h cells named =
+  -- at the end nothing waits, the goal is reached, which is what the cells that the first entries name lead to, and the table names what it has freed
+  pub serve-end : (end : ℕ) → end ≡ head → x ≤ head → (cells : List ℕ) → take tail w₀ ≡ take from w₀ ++ map suc cells
+      → WorkListed (drain (length k₀) (working k₀ f₀ n₀ s₀ q₀ t₀ cells)) k f n s q t w₀ from w end
+  serve-end end is h cells named =
       let none : g .pending ≡ [] = occ-empty (g .pending) (λ c. omega (arith, occ-length c (g .pending), end-is)) in
       let goal : Work = drain (length k₀) (working k₀ f₀ n₀ s₀ q₀ t₀ (g .first)) in
-      let r : Reaches goal (working k f n s q t (g .pending)) head =
-      subst (λ (u : Work). Reaches goal u head) (drain-empty (length k₀ - head) (working k f n s q t (g .pending)) none) (g .reaches) in
-      subst (λ (l : List ℕ). WorkDone (drain (length k₀) (working k₀ f₀ n₀ s₀ q₀ t₀ l)) k f n s q t head) (same-cells (g .first) cells (sym (g .begun) ∙ named))
-      (record { heap = sym (r .heap); freed = omega (arith, r .freed); few = omega (arith, ahead, g .bound) })
+      let r : Reaches goal (working k f n s q t (g .pending)) (g .gone) =
+      subst (λ (u : Work). Reaches goal u (g .gone)) (drain-empty (length k₀ - length (g .gone)) (working k f n s q t (g .pending)) none) (g .reaches) in
+      let all : g .gone ++ g .pending ≡ goal .freed = ap (λ (l : List ℕ). g .gone ++ l) none ∙ sym (r .freed) in
+      let at : end ≡ x = omega (arith, end-is) in
+      subst (λ (l : List ℕ). WorkListed (drain (length k₀) (working k₀ f₀ n₀ s₀ q₀ t₀ l)) k f n s q t w₀ from w end)
+      (same-cells (take from w₀) (g .first) cells (sym (g .begun) ∙ named))
+      (record {
+        heap = sym (r .heap);
+        listed = ap (λ (i : ℕ). take i w) at ∙ g .listed ∙ ap (λ (l : List ℕ). take from w₀ ++ map suc l) all;
+        few = omega (arith, end-fits, at);
+      })

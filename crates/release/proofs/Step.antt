@@ -24,7 +24,7 @@ module _ (k f n q t : List ℕ) (c : ℕ) where
   unfolding finalizable
   plain-flags other = and-no (eqb (getD k c 0) 1) (ne-eqb (getD f c 0) 1 other)
 
-module _ (k f n q t before : List ℕ) (tail : ℕ) (bound : tail ≤ 1024) where
+module _ (k f n q t before : List ℕ) (tail : ℕ) (bound : tail ≤ length before) where
   -- where nothing is to come off
   pub came-off-nothing : CameOff (working k f n [] q t []) n q t before tail before tail
   came-off-nothing = record { count = refl; queue = refl; control = refl; listed = sym (append-nil _); bound = bound }
@@ -53,6 +53,12 @@ module _ (k f n q t before : List ℕ) (tail : ℕ) (bound : tail ≤ 1024) wher
         subst⁻¹ (λ (w : Work). CameOff w (set n (r - 1) (x - 1)) q t before tail before tail) (at (suc (suc (x - 2))) e)
         (record { count = ap (set n (r - 1)) less; queue = refl; control = refl; listed = sym (append-nil _); bound = bound })
 
+    -- with the number that is written
+    pub many-as : {written : ℕ} → written ≡ getD n (r - 1) 0 - 1 → 1 < getD n (r - 1) 0
+        → CameOff (decref (working k f n [] q t []) r) (set n (r - 1) written) q t before tail before tail
+    many-as {written} is h =
+        subst⁻¹ (λ (x : ℕ). CameOff (decref (working k f n [] q t []) r) (set n (r - 1) x) q t before tail before tail) is (many h)
+
     -- it falls to zero
     pub at-zero : (n′ q′ t′ after : List ℕ) (next : ℕ) → getD n (r - 1) 0 ≡ 1
         → CameOff (refzero (finalizable (tables k f n [] [] q t) (r - 1)) (working k f n [] q t []) (r - 1)) n′ q′ t′ before tail after next
@@ -77,10 +83,10 @@ module _ (k f n q t before : List ℕ) (tail : ℕ) (bound : tail ≤ 1024) wher
         })
 
     -- the cell joins the work list: the entry `written` at the list's end is its reference
-    pub lists : (written next : ℕ) → written ≡ r → next ≡ tail + 1 → finalizable (tables k f n [] [] q t) (r - 1) ≡ false → tail < length before → length before ≡ 1024
+    pub lists : (written next : ℕ) → written ≡ r → next ≡ tail + 1 → finalizable (tables k f n [] [] q t) (r - 1) ≡ false → tail < length before
         → CameOff (refzero (finalizable (tables k f n [] [] q t) (r - 1)) (working k f n [] q t []) (r - 1)) (set n (r - 1) 0) q t before tail (set before tail written) next
     unfolding refzero setCount
-    lists written next is behind plain room small =
+    lists written next is behind plain room =
         let named : written ≡ suc (r - 1) = omega arith in
         let end : next ≡ suc tail = omega arith in
         subst⁻¹ (λ (b : Bool). CameOff (refzero b (working k f n [] q t []) (r - 1)) (set n (r - 1) 0) q t before tail (set before tail written) next) plain

@@ -1,4 +1,5 @@
--- What the steps of a take-off ask for and leave. The work list stands in an array, as references: the cells that its entries before `tail` name have joined it.
+-- What the steps of a take-off ask for and leave. The work list stands in the table for the freed cells, as references: the cells that its entries
+-- before `tail` name have joined it.
 -- Assumes nothing: these are definitions.
 use Prim.Native.Nat.{ℕ, suc, _+_, _*_, _-_, _≤_, _<_}
 use mathlib.Core.List.{List, [], _∷_, _++_, map}
@@ -14,25 +15,25 @@ abbrev pub working : (kind flags count slots queue control pending : List ℕ) �
 working kind flags count slots queue control pending = record { heap = tables kind flags count slots [] queue control; pending = pending; freed = []; queued = [] }
 
 -- The references `due` are to come off. Of the work list's cells `done` are freed, `serving` is being served and `pending` wait.
-pub record ToComeOff (kind flags count queue control work : List ℕ) (tail : ℕ) (due : List ℕ) : Type 0 where
+pub record ToComeOff (kind flags count queue control freed : List ℕ) (tail : ℕ) (due : List ℕ) : Type 0 where
   pub serving : List ℕ
   pub done : List ℕ
   pub pending : List ℕ
   pub held : List ℕ
-  pub room : length work ≡ 1024
+  pub room : length kind ≤ length freed
   pub listed : tail ≡ length done + length (serving ++ pending)
   pub balanced : Balanced (working kind flags count [] queue control pending) serving done (due ++ held)
 
 -- the same for the slots of cell c, where those of strings and buffers are empty
-pub record SlotsToComeOff (kind flags count slots queue control work : List ℕ) (tail c : ℕ) : Type 0 where
+pub record SlotsToComeOff (kind flags count slots queue control freed : List ℕ) (tail c : ℕ) : Type 0 where
   pub stands : c < length kind
   pub inside : 8 * c + 8 ≤ length slots
   pub plainSlots : PlainSlots kind slots
-  pub due : ToComeOff kind flags count queue control work tail (slotsOf slots c)
+  pub due : ToComeOff kind flags count queue control freed tail (slotsOf slots c)
 
 -- the same for r alone, which is the last reference to its cell
-pub record LastToComeOff (kind flags count queue control work : List ℕ) (tail r : ℕ) : Type 0 where
-  pub due : ToComeOff kind flags count queue control work tail (r ∷ [])
+pub record LastToComeOff (kind flags count queue control freed : List ℕ) (tail r : ℕ) : Type 0 where
+  pub due : ToComeOff kind flags count queue control freed tail (r ∷ [])
   pub some : 1 ≤ r
   pub last : getD count (r - 1) 0 ≡ 1
 
@@ -42,13 +43,16 @@ pub record CameOff (v : Work) (c q t before : List ℕ) (tail : ℕ) (after : Li
   pub queue : q ≡ v .heap .queue
   pub control : t ≡ v .heap .control
   pub listed : take next after ≡ take tail before ++ map suc (v .pending)
-  pub bound : next ≤ 1024
+  pub bound : next ≤ length before
 
--- the work list's entries before `tail` name the cells that wait, and everything else is in balance
-pub record Drainable (kind flags count slots queue control work : List ℕ) (tail : ℕ) : Type 0 where
+-- The entries from `from` to `tail` name the cells that wait, and everything else is in balance; those before `from` are for the cells `done`,
+-- which the call has freed before.
+pub record Drainable (kind flags count slots queue control freed : List ℕ) (from tail : ℕ) : Type 0 where
   pub outside : List ℕ
+  pub done : List ℕ
   pub pending : List ℕ
-  pub room : length work ≡ 1024
-  pub bound : tail ≤ 1024
-  pub listed : take tail work ≡ map suc pending
-  pub draining : Draining (working kind flags count slots queue control pending) [] outside
+  pub room : length kind ≤ length freed
+  pub place : from ≡ length done
+  pub bound : tail ≤ length freed
+  pub listed : take tail freed ≡ take from freed ++ map suc pending
+  pub draining : Draining (working kind flags count slots queue control pending) done outside

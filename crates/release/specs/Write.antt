@@ -1,9 +1,9 @@
 -- What a write of a reference asks for and leaves.
 -- Assumes nothing: these are definitions.
 use Prim.Native.Nat.{ℕ, suc, _≤_, _<_}
-use mathlib.Core.List.{List, []}
+use mathlib.Core.List.{List, [], map}
 use mathlib.Core.Path.{_≡_}
-use lib.ListN.{length, getD}
+use lib.ListN.{length, take, getD}
 use Rattle.rules.specs.declared.Answer.{Answer}
 use Rattle.rules.specs.Heap.{tables}
 use Rattle.rules.specs.Release.{Work}
@@ -24,7 +24,9 @@ pub record SlotWritable (kind flags count slots queue control : List ℕ) (cell 
   pub small : slot < 8
   pub used : (c : ℕ) → r ≡ suc c → 1 ≤ getD kind c 0
 
--- The tables are those of v, and the answer is that of a call that is done: how many cells it freed and queued.
-pub record WorkFinished (v : Work) (k f n s r q t : List ℕ) (a : Answer) : Type 0 where
+-- The tables are those of v, and the answer is that of a call that is done: how many cells it freed and queued. The first entries of the table `list`,
+-- which was `room`, are the references of the cells that v freed, in order, if it has room for every cell; nothing is said of its other entries.
+pub record WorkFinished (v : Work) (k f n s r q t room list : List ℕ) (a : Answer) : Type 0 where
   pub heap : tables k f n s r q t ≡ v .heap
+  pub listed : length k ≤ length room → take (length (v .freed)) list ≡ map suc (v .freed)
   pub answered : a ≡ answers 0 (length (v .freed)) (length (v .queued)) 0

@@ -1,19 +1,20 @@
--- Document 01, "The eight calls", with FRESH: what each does and answers, on any tables and with any numbers.
+-- Document 01, "The eight calls", with FRESH: what each does and answers, on any tables and with any numbers; and with Q-5 of document 02, which cells it freed.
 -- Assumes nothing: these are definitions.
 use Prim.Native.Nat.{ℕ, zero, suc, _+_, _*_, _-_}
-use mathlib.Core.List.{List, [], _∷_, _++_}
+use mathlib.Core.List.{List, [], _∷_, _++_, map}
 use mathlib.Core.Path.{_≡_}
-use lib.ListN.{length, drop}
+use lib.ListN.{length, drop, replicate}
 use Rattle.rules.specs.declared.Answer.{Answer}
 use Rattle.rules.specs.Heap.{Heap, cells, queued, running, slotOf, rootAt, queueAt, fresh, setKind, setFlags, setCount, setSlot, setRoot, setRunning, setQueue}
 use Rattle.rules.specs.Release.{Work, start, incref, release}
 use Rattle.rules.specs.Collect.{collect}
-use Rattle.rules.specs.Refusals.{Call, lowestFree, refusal}
+use Rattle.rules.specs.Refusals.{Call, lowestFree, refusal, refusalLent}
 use Rattle.rules.specs.Refusals.Call.{FRESH, NEW, CLEAR, COPY, LOAD, STORE, COLLECT, START, FINISH}
 
--- what a call leaves and answers
+-- what a call leaves, the cells that it freed, in order, and what it answers
 pub record Result : Type 0 where
   pub heap : Heap
+  pub freed : List ℕ
   pub answer : Answer
 
 abbrev pub answers : ℕ → ℕ → ℕ → ℕ → Answer
@@ -21,15 +22,15 @@ answers r f q c = record { refused = r; freed = f; queued = q; cell = c }
 
 -- "A refusal changes no table entry and answers freed 0, queued 0, cell 0."
 unfoldable pub refuse : Heap → ℕ → Result
-refuse h r = record { heap = h; answer = answers r 0 0 0 }
+refuse h r = record { heap = h; freed = []; answer = answers r 0 0 0 }
 
 -- a call done that frees and queues nothing; the cell is NEW's
 unfoldable pub done : Heap → ℕ → Result
-done h c = record { heap = h; answer = answers 0 0 0 c }
+done h c = record { heap = h; freed = []; answer = answers 0 0 0 c }
 
 -- "freed (cells used before and free after); queued (cells put in the queue by this call)"
 unfoldable pub finished : Work → Result
-finished w = record { heap = w .heap; answer = answers 0 (length (w .freed)) (length (w .queued)) 0 }
+finished w = record { heap = w .heap; freed = w .freed; answer = answers 0 (length (w .freed)) (length (w .queued)) 0 }
 
 -- "NEW root, kind, finalizer: the lowest free cell, count 1, placed in the root": cell c
 unfoldable pub allocate : Heap → ℕ → ℕ → ℕ → ℕ → Heap
@@ -76,25 +77,49 @@ unfoldable pub byRefusal : Heap → Call → ℕ → Result
 byRefusal h call zero = act h call
 byRefusal h call (suc r) = refuse h (suc r)
 
--- one call on any tables, with any numbers
+-- one call on any tables of a heap, with any numbers, lent a table of N entries for the cells that it frees
 unfoldable pub step : Heap → Call → Result
 step h call = byRefusal h call (refusal h call)
 
--- a call stands so to the tables before and after it and to its answer: what every function of the heap ensures
-pub record Did (call : Call) (before after : Heap) (answer : Answer) : Type 0 where
-  pub heap : after ≡ step before call .heap
-  pub answered : answer ≡ step before call .answer
+-- ---- document 02, Q-5: which cells went
 
--- one call of a list: what it was, the tables that it left, and its answer
+-- one call on any tables, with any numbers
+unfoldable pub stepLent : Heap → List ℕ → Call → Result
+stepLent h lent call = byRefusal h call (refusalLent h lent call)
+
+-- "its first "freed" entries are the freed cells' references in the order in which they became zeros, COLLECT's in cell order, and the rest are 0",
+-- in a table of n entries
+unfoldable pub references : ℕ → List ℕ → List ℕ
+references n freed = map suc freed ++ replicate (n - length freed) 0
+
+-- the lent table after a call done; "After a refusal it is as before"
+unfoldable pub byAnswer : ℕ → List ℕ → List ℕ → List ℕ
+byAnswer zero lent freed = references (length lent) freed
+byAnswer (suc r) lent freed = lent
+
+-- the lent table after a call with this result
+unfoldable pub listed : List ℕ → Result → List ℕ
+listed lent r = byAnswer (r .answer .refused) lent (r .freed)
+
+-- A call stands so to the tables before and after it, to the lent table before and after it, and to its answer: what every function of the heap ensures.
+-- FRESH takes no lent table, which is an empty one here.
+pub record Did (call : Call) (before : Heap) (lent : List ℕ) (after : Heap) (list : List ℕ) (answer : Answer) : Type 0 where
+  pub heap : after ≡ stepLent before lent call .heap
+  pub freed : list ≡ listed lent (stepLent before lent call)
+  pub answered : answer ≡ stepLent before lent call .answer
+
+-- one call of a list: what it was, the table that it was lent, the tables and the list of freed cells that it left, and its answer
 pub record Event : Type 0 where
   pub call : Call
+  pub lent : List ℕ
   pub after : Heap
+  pub list : List ℕ
   pub answer : Answer
 
--- "In a sequence each call finds the heap's tables as the one before left them; nobody else writes them in between."
+-- "In a sequence each call finds the heap's tables as the one before left them; nobody else writes them in between." The lent table may be another each time
 abbrev pub Trace : Heap → List Event → Type 0
 Trace h [] = Unit
-Trace h (e ∷ l) = Did (e .call) h (e .after) (e .answer) × Trace (e .after) l
+Trace h (e ∷ l) = Did (e .call) h (e .lent) (e .after) (e .list) (e .answer) × Trace (e .after) l
 
 -- event e of a list that starts on the tables h finds the tables `before`
 pub data Finds : Heap → List Event → Heap → Event → Type 0 where
@@ -110,10 +135,18 @@ pub data Between : Heap → List Event → Heap → Type 0 where
 pub record Begins (h : Heap) : Type 0 where
   pub stale : Heap
   pub answer : Answer
-  pub did : Did FRESH stale h answer
+  pub did : Did FRESH stale [] h [] answer
   pub done : answer .refused ≡ 0
+
+-- a table of N entries, for calls that are made without one of their own
+unfoldable pub room : Heap → List ℕ
+room h = replicate (cells h) 0
+
+-- a call by the rules, lent that table
+abbrev pub eventOf : Heap → Call → Event
+eventOf h call = record { call = call; lent = room h; after = step h call .heap; list = listed (room h) (step h call); answer = step h call .answer }
 
 -- the trace that a list of calls makes
 unfoldable pub run : Heap → List Call → List Event
 run h [] = []
-run h (call ∷ l) = record { call = call; after = step h call .heap; answer = step h call .answer } ∷ run (step h call .heap) l
+run h (call ∷ l) = eventOf h call ∷ run (step h call .heap) l

@@ -13,9 +13,9 @@ use Rattle.rules.specs.Heap.{Heap, cells, running, countOf, slotOf, slot
 use Rattle.rules.specs.Sound.{Ready}
 use Rattle.rules.specs.Release.{Work, start, incref, decref, withPending, serve, release}
 use Rattle.rules.specs.Collect.{unreachedFinalizable, enqueueAll, garbage, lowerAll}
-use Rattle.rules.specs.Refusals.{Call, refusal}
+use Rattle.rules.specs.Refusals.{Call, refusalLent}
 use Rattle.rules.specs.Refusals.Call.{FRESH, NEW, CLEAR, COPY, LOAD, STORE, COLLECT, START, FINISH}
-use Rattle.rules.specs.Calls.{held, leaveQueue, step, Did, Event, Trace, Finds, Begins}
+use Rattle.rules.specs.Calls.{held, leaveQueue, step, Did, Event, Trace, Finds, Begins, room}
 
 -- ---- one take-off
 
@@ -84,8 +84,8 @@ byRefusalMet h call zero = actMet h call
 byRefusalMet h call (suc r) = []
 
 -- one call on any tables, with any numbers
-unfoldable pub stepMet : Heap → Call → List ℕ
-stepMet h call = byRefusalMet h call (refusal h call)
+unfoldable pub stepMet : Heap → List ℕ → Call → List ℕ
+stepMet h lent call = byRefusalMet h call (refusalLent h lent call)
 
 -- ---- the claim
 
@@ -106,13 +106,13 @@ placed h COLLECT = 0
 placed h (START r) = named (queueAt h 0)
 placed h FINISH = 0
 
-pub record AboveZero (call : Call) (before after : Heap) (answer : Answer) : Type 0 where
+pub record AboveZero (call : Call) (before : Heap) (lent : List ℕ) (after : Heap) (answer : Answer) : Type 0 where
   -- "no taking-off, at any point of a cascade, a sweep or a FINISH, meets a zero count"
-  pub none : occ 0 (stepMet before call) ≡ 0
+  pub none : occ 0 (stepMet before lent call) ≡ 0
   -- And no take-off is missing from the list: what the counts lose altogether is one for each of its entries. What they gain is one for each cell
   -- that the call queues, and what it places. FRESH takes nothing off: it writes.
   pub all : call ≢ FRESH → answer .refused ≡ 0
-      → sum (after .count) + length (stepMet before call) ≡ sum (before .count) + answer .queued + placed before call
+      → sum (after .count) + length (stepMet before lent call) ≡ sum (before .count) + answer .queued + placed before call
 
 -- a count met at zero: the list has it, and the table would then hold what no 16-bit table can, after a cascade's step and after a sweep's
 pub record Shows (w : Work) (c : ℕ) : Type 0 where
@@ -122,10 +122,11 @@ pub record Shows (w : Work) (c : ℕ) : Type 0 where
 
 pub record CountsAboveZero : Type 0 where
   -- "from a sound heap": every call
-  pub each : (call : Call) (before after : Heap) (answer : Answer) → Did call before after answer → Ready before → AboveZero call before after answer
+  pub each : (call : Call) (before : Heap) (lent : List ℕ) (after : Heap) (list : List ℕ) (answer : Answer) → Did call before lent after list answer → Ready before
+      → AboveZero call before lent after answer
   -- and so every call of every list from a FRESH done
   pub always : (h : Heap) → Begins h → (l : List Event) → Trace h l
-      → (before : Heap) (e : Event) → Finds h l before e → AboveZero (e .call) before (e .after) (e .answer)
+      → (before : Heap) (e : Event) → Finds h l before e → AboveZero (e .call) before (e .lent) (e .after) (e .answer)
   -- "would hide the very fault I fear": nothing does
   pub shows : (w : Work) (c : ℕ) → c < length (w .heap .count) → countOf (w .heap) c ≡ 0 → Shows w c
 
@@ -134,7 +135,7 @@ pub record CountsAboveZero : Type 0 where
 -- call after call
 unfoldable pub runMet : Heap → List Call → List (List ℕ)
 runMet h [] = []
-runMet h (call ∷ l) = stepMet h call ∷ runMet (step h call .heap) l
+runMet h (call ∷ l) = stepMet h (room h) call ∷ runMet (step h call .heap) l
 
 pub record CallsMet : Type 0 where
   pub calls : List Call

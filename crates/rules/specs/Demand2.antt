@@ -16,11 +16,12 @@ use Rattle.rules.specs.Calls.{Did, Event, Trace, Between, Begins}
 use Rattle.rules.specs.Numbers.{TrueNumbers}
 
 -- one call on a heap that fits and is sound
-pub record KeepsSound (call : Call) (before after : Heap) (answer : Answer) : Type 0 where
+pub record KeepsSound (call : Call) (before after : Heap) (list : List ℕ) (answer : Answer) : Type 0 where
   -- "From a sound heap it leaves a sound one."
   pub ready : Ready after
-  -- "freed (cells used before and free after); queued (cells put in the queue by this call)", of the eight calls; FRESH answers 0 for both
-  pub numbers : call ≢ FRESH → TrueNumbers call before after answer
+  -- "freed (cells used before and free after); queued (cells put in the queue by this call)", of the eight calls, which also list the
+  -- freed cells; FRESH answers 0 for both and lists nothing
+  pub numbers : call ≢ FRESH → TrueNumbers call before after list answer
 
 -- rule 6 in other words: every used cell's count is the references to it from roots and slots, plus one while it is queued
 abbrev pub CountsReferences : Heap → Type 0
@@ -32,5 +33,6 @@ pub record AlwaysSound (h : Heap) (l : List Event) : Type 0 where
   pub counts : (g : Heap) → Between h l g → CountsReferences g
 
 pub record Demand2 : Type 0 where
-  pub keeps : (call : Call) (before after : Heap) (answer : Answer) → Did call before after answer → Ready before → KeepsSound call before after answer
+  pub keeps : (call : Call) (before : Heap) (lent : List ℕ) (after : Heap) (list : List ℕ) (answer : Answer) → Did call before lent after list answer → Ready before
+      → KeepsSound call before after list answer
   pub always : (h : Heap) → Begins h → (l : List Event) → Trace h l → AlwaysSound h l

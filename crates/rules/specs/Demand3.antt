@@ -42,9 +42,11 @@ pub record CompletedSweep (e : Event) : Type 0 where
   pub collects : e .call ≡ COLLECT
   pub done : e .answer .refused ≡ 0
 
--- a sweep made next: its tables and its answer
+-- a sweep made next, lent some table: its tables and its answer
 pub record NextSweep (h after : Heap) (answer : Answer) : Type 0 where
-  pub did : Did COLLECT h after answer
+  pub lent : List ℕ
+  pub list : List ℕ
+  pub did : Did COLLECT h lent after list answer
   pub done : answer .refused ≡ 0
 
 -- a completed sweep made next frees nothing and queues nothing, by the tables: no cell is freed, and the queue's entries stay as they are

@@ -17,6 +17,7 @@ pub mod Demand3
 pub mod Rescue
 pub mod Freeing
 pub mod Counts
+pub mod FreedLists
 pub mod Audit
 pub mod AuditReport
 pub mod Witness

@@ -1,5 +1,5 @@
--- The calls, and document 01's "Refusal numbers" in two forms: the paper's table as it reads, `Why`, and a test that computes, `refusal`.
--- The crate `laws` proves that they agree.
+-- The calls, and document 01's "Refusal numbers", with Q-5 of document 02, in two forms: the paper's table as it reads, `Why`, and a test that computes,
+-- `refusalLent`. The crate `laws` proves that they agree.
 -- Assumes nothing: these are definitions.
 use Prim.Native.Nat.{ℕ, zero, suc, _<_}
 use mathlib.Core.List.{List, [], _∷_}
@@ -7,7 +7,7 @@ use mathlib.Core.Bool.{Bool, true, false, not, _&&_, _||_, cond}
 use mathlib.Core.Logic.{_⊎_, _≢_}
 use mathlib.Core.Path.{_≡_}
 use lib.Dec.{eqb, leb, ltb}
-use lib.ListN.{getD}
+use lib.ListN.{length, getD}
 use Rattle.rules.specs.Lists.{every}
 use Rattle.rules.specs.Heap.{Heap, cells, queued, running, kindOf, rootAt, Used}
 use Rattle.rules.specs.Sound.{Sized, Sound}
@@ -65,35 +65,37 @@ slotNumbers COLLECT = []
 slotNumbers (START r) = []
 slotNumbers FINISH = []
 
--- The paper's table: each number and when it is given.
-pub data Why : Reason → Heap → Call → Type 0 where
+-- The paper's table: each number and when it is given, to a call on the heap h that is lent the table `lent` for the cells that it frees.
+pub data Why : Reason → Heap → List ℕ → Call → Type 0 where
   -- 1 SIZE: "N is not 1 to 1,024, or the tables' lengths don't fit N"
-  unsized : {h : Heap} {call : Call} → ¬ Sized h → Why SIZE h call
+  unsized : {h : Heap} {lent : List ℕ} {call : Call} → ¬ Sized h → Why SIZE h lent call
+  -- document 02, Q-5: "each call except FRESH takes one more lent table of N entries, else SIZE"
+  lentSize : {h : Heap} {lent : List ℕ} {call : Call} → call ≢ FRESH → length lent ≢ cells h → Why SIZE h lent call
   -- 2 DAMAGED: "the heap is not sound"; "FRESH gives only SIZE"
-  unsound : {h : Heap} {call : Call} → call ≢ FRESH → ¬ Sound h → Why DAMAGED h call
+  unsound : {h : Heap} {lent : List ℕ} {call : Call} → call ≢ FRESH → ¬ Sound h → Why DAMAGED h lent call
   -- 3 NUMBER: "a root above 63, a slot above 7, a kind not 1 to 3, a finalizer wish above 1, or 1 for a non-object"
-  highRoot : {h : Heap} {call : Call} (i : ℕ) → 63 < getD (rootNumbers call) i 0 → Why NUMBER h call
-  highSlot : {h : Heap} {call : Call} (i : ℕ) → 7 < getD (slotNumbers call) i 0 → Why NUMBER h call
-  badKind : {h : Heap} {r k f : ℕ} → (k ≡ 0) ⊎ (3 < k) → Why NUMBER h (NEW r k f)
-  badWish : {h : Heap} {r k f : ℕ} → 1 < f → Why NUMBER h (NEW r k f)
-  notObject : {h : Heap} {r k f : ℕ} → f ≡ 1 → k ≢ 1 → Why NUMBER h (NEW r k f)
+  highRoot : {h : Heap} {lent : List ℕ} {call : Call} (i : ℕ) → 63 < getD (rootNumbers call) i 0 → Why NUMBER h lent call
+  highSlot : {h : Heap} {lent : List ℕ} {call : Call} (i : ℕ) → 7 < getD (slotNumbers call) i 0 → Why NUMBER h lent call
+  badKind : {h : Heap} {lent : List ℕ} {r k f : ℕ} → (k ≡ 0) ⊎ (3 < k) → Why NUMBER h lent (NEW r k f)
+  badWish : {h : Heap} {lent : List ℕ} {r k f : ℕ} → 1 < f → Why NUMBER h lent (NEW r k f)
+  notObject : {h : Heap} {lent : List ℕ} {r k f : ℕ} → f ≡ 1 → k ≢ 1 → Why NUMBER h lent (NEW r k f)
   -- 4 EMPTY: "the root that should hold an object is empty"
-  loadEmpty : {h : Heap} {to o s : ℕ} → rootAt h o ≡ 0 → Why EMPTY h (LOAD to o s)
-  storeEmpty : {h : Heap} {o s from : ℕ} → rootAt h o ≡ 0 → Why EMPTY h (STORE o s from)
+  loadEmpty : {h : Heap} {lent : List ℕ} {to o s : ℕ} → rootAt h o ≡ 0 → Why EMPTY h lent (LOAD to o s)
+  storeEmpty : {h : Heap} {lent : List ℕ} {o s from : ℕ} → rootAt h o ≡ 0 → Why EMPTY h lent (STORE o s from)
   -- 5 KIND: "it holds a string or buffer"
-  loadKind : {h : Heap} {to o s c : ℕ} → rootAt h o ≡ suc c → (kindOf h c ≡ 2) ⊎ (kindOf h c ≡ 3) → Why KIND h (LOAD to o s)
-  storeKind : {h : Heap} {o s from c : ℕ} → rootAt h o ≡ suc c → (kindOf h c ≡ 2) ⊎ (kindOf h c ≡ 3) → Why KIND h (STORE o s from)
+  loadKind : {h : Heap} {lent : List ℕ} {to o s c : ℕ} → rootAt h o ≡ suc c → (kindOf h c ≡ 2) ⊎ (kindOf h c ≡ 3) → Why KIND h lent (LOAD to o s)
+  storeKind : {h : Heap} {lent : List ℕ} {o s from c : ℕ} → rootAt h o ≡ suc c → (kindOf h c ≡ 2) ⊎ (kindOf h c ≡ 3) → Why KIND h lent (STORE o s from)
   -- 6 TAKEN: "the root for NEW or START is not empty"
-  newTaken : {h : Heap} {r k f : ℕ} → rootAt h r ≢ 0 → Why TAKEN h (NEW r k f)
-  startTaken : {h : Heap} {r : ℕ} → rootAt h r ≢ 0 → Why TAKEN h (START r)
+  newTaken : {h : Heap} {lent : List ℕ} {r k f : ℕ} → rootAt h r ≢ 0 → Why TAKEN h lent (NEW r k f)
+  startTaken : {h : Heap} {lent : List ℕ} {r : ℕ} → rootAt h r ≢ 0 → Why TAKEN h lent (START r)
   -- 7 FULL: "NEW, and no cell is free"
-  full : {h : Heap} {r k f : ℕ} → ((c : ℕ) → c < cells h → Used h c) → Why FULL h (NEW r k f)
+  full : {h : Heap} {lent : List ℕ} {r k f : ℕ} → ((c : ℕ) → c < cells h → Used h c) → Why FULL h lent (NEW r k f)
   -- 8 BUSY: "START while one is running"
-  busy : {h : Heap} {r : ℕ} → running h ≢ 0 → Why BUSY h (START r)
+  busy : {h : Heap} {lent : List ℕ} {r : ℕ} → running h ≢ 0 → Why BUSY h lent (START r)
   -- 9 NONE: "START with an empty queue"
-  none : {h : Heap} {r : ℕ} → queued h ≡ 0 → Why NONE h (START r)
+  none : {h : Heap} {lent : List ℕ} {r : ℕ} → queued h ≡ 0 → Why NONE h lent (START r)
   -- 10 IDLE: "FINISH with none running"
-  idle : {h : Heap} → running h ≡ 0 → Why IDLE h FINISH
+  idle : {h : Heap} {lent : List ℕ} → running h ≡ 0 → Why IDLE h lent FINISH
 
 -- a reason, and a test whether it is given
 pub record Condition : Type 0 where
@@ -150,6 +152,14 @@ isFresh FINISH = false
 unfoldable pub refusalSound : Heap → Call → ℕ
 refusalSound h call = lowest (conditions h call)
 
--- why a call is refused on any tables: SIZE and DAMAGED come first
+-- why a call is refused on any tables of a heap, lent a table of N entries if it takes one: SIZE and DAMAGED come first
 unfoldable pub refusal : Heap → Call → ℕ
 refusal h call = lowest (SIZE when not (fits h) ∷ DAMAGED when (not (isFresh call) && not (sound h)) ∷ conditions h call)
+
+-- Q-5: "each call except FRESH takes one more lent table of N entries"
+unfoldable pub lentFits : Heap → List ℕ → Call → Bool
+lentFits h lent call = isFresh call || eqb (length lent) (cells h)
+
+-- "else SIZE", which is the lowest number: why a call is refused on any tables
+unfoldable pub refusalLent : Heap → List ℕ → Call → ℕ
+refusalLent h lent call = cond (lentFits h lent call) (refusal h call) (number SIZE)

@@ -1,16 +1,17 @@
 -- The calls that are made for lines are a list to which demand 3 applies. Assumes nothing.
 use native.Mathlib.Omega.{arith}
-use mathlib.Core.Path.{_≡_, refl, sym, ap, subst⁻¹}
+use mathlib.Core.Path.{_≡_, refl, subst⁻¹}
 use mathlib.Core.List.{List, [], _∷_, _++_}
 use Rattle.csv.specs.declared.reader.Record.{Record}
-use Rattle.rules.specs.Heap.{Heap, fresh, cells}
+use Rattle.rules.specs.Heap.{Heap, fresh}
+use Rattle.rules.specs.Sound.{Sized}
 use Rattle.rules.specs.Refusals.{Call}
-use Rattle.rules.specs.Refusals.Call.{FRESH}
-use Rattle.rules.specs.Calls.{Result, answers, refuse, done, step, Event, Trace, Between, run}
+use Rattle.rules.specs.Calls.{answers, refuse, done, act, Event, eventOf, Trace, Between, run}
 use Rattle.rules.specs.Calls.Between.{first, behind}
 use Rattle.rules.specs.Asked.{Asked, obey}
 use Rattle.rules.specs.Asked.Asked.{call, LINE}
-use Rattle.laws.specs.Calls.Admission.{step-fresh, fresh-ready}
+use Rattle.laws.specs.Calls.Admission.{fresh-ready}
+use Rattle.laws.specs.Calls.Outer.{fresh-done}
 use Rattle.laws.specs.Demand.Events.{run-trace}
 use Rattle.laws.specs.Demand.Third.{demand-3}
 use Rattle.session.specs.Session.{askedOf, numberOf, lineOf, afterLine, session, afterAll}
@@ -25,7 +26,7 @@ lined-one : (h : Heap) (r : Record) (rs : List Record) (q : Asked) → askedOf r
     → Lined rs (run (obey h q .heap) (callsOf rs)) (session (obey h q .heap) rs)
     → Lined (r ∷ rs) (run h (inFront q (callsOf rs))) (lineOf (numberOf r) (obey h q .answer) ++ session (obey h q .heap) rs)
 unfolding run inFront obey refuse
-lined-one h r rs (call c) e l = called r (record { call = c; after = step h c .heap; answer = step h c .answer }) e l
+lined-one h r rs (call c) e l = called r (eventOf h c) e l
 lined-one h r rs LINE e l = refusedLine r e l
 
 all-lined : (h : Heap) (rs : List Record) → Lined rs (run h (callsOf rs)) (session h rs)
@@ -72,12 +73,7 @@ lines-keep h b es t rs =
     }
 
 pub program-begins : ProgramBegins
-unfolding done fresh
+unfolding act done fresh
 program-begins =
-    let e : step atStart FRESH ≡ done (fresh (cells atStart)) 0 = step-fresh atStart (fresh-ready 256 (omega arith) (omega arith) .sized) in
-    record {
-      stale = atStart;
-      answer = answers 0 0 0 0;
-      did = record { heap = sym (ap (λ (r : Result). r .heap) e); answered = sym (ap (λ (r : Result). r .answer) e) };
-      done = refl;
-    }
+    let sized : Sized atStart = fresh-ready 256 (omega arith) (omega arith) .sized in
+    record { stale = atStart; answer = answers 0 0 0 0; did = fresh-done sized refl refl; done = refl }

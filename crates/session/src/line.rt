@@ -69,6 +69,8 @@ fn obey(
         (tables (now (kind .exit)) (now (flags .exit)) (now (count .exit)) (now (slots .exit)) (now (roots .exit)) (now (queue .exit)) (now (control .exit))) r ⌝ }
 {
     if why == DONE {
+        // An answer's line names no cells, so that no list of them is asked for.
+        let mut unlisted = [0u16; 0];
         return step(
             kind,
             flags,
@@ -77,6 +79,7 @@ fn obey(
             roots,
             queue,
             control,
+            &mut unlisted,
             op,
             x,
             y,

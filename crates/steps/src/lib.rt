@@ -1,5 +1,6 @@
 // The call that four numbers name, on a sound heap.
 ghost use mathlib.Core.Path.{_≡_};
+ghost use Prim.Native.Nat.{_≤_};
 ghost use Rattle.rules.specs.Heap.{tables};
 ghost use Rattle.rules.specs.Sound.{Ready};
 ghost use Rattle.rules.specs.Asked.{callNumbered, callOf, uses, usedOrZero, unusedZero, isCall, Obeyed};
@@ -72,7 +73,70 @@ pub fn names_call(op: u16, x: usize, y: usize, z: usize) -> bool
     }
 }
 
-// The call with this number, and its arguments as they are.
+// The calls that move a reference from one place to another: COPY, LOAD and STORE.
+fn moving(
+    kind: &mut [u16],
+    flags: &mut [u16],
+    count: &mut [u16],
+    slots: &mut [u16],
+    roots: &mut [u16],
+    queue: &mut [u16],
+    control: &mut [u16],
+    freed: &mut [u16],
+    op: u16,
+    x: usize,
+    y: usize,
+    z: usize,
+) -> Answer
+    requires { ⌜ Ready (tables (now kind) (now flags) (now count) (now slots) (now roots) (now queue) (now control)) ⌝ }
+    requires { ⌜ (3 ≤ op) × (op ≤ 5) ⌝ }
+    ensures { λ r. ⌜ Obeyed (callNumbered op x y z)
+        (tables (now (kind .entry)) (now (flags .entry)) (now (count .entry)) (now (slots .entry)) (now (roots .entry)) (now (queue .entry)) (now (control .entry)))
+        (tables (now (kind .exit)) (now (flags .exit)) (now (count .exit)) (now (slots .exit)) (now (roots .exit)) (now (queue .exit)) (now (control .exit))) r ⌝ }
+{
+    match op {
+        3 => copy(
+            kind,
+            flags,
+            count,
+            slots,
+            roots,
+            queue,
+            control,
+            freed,
+            x,
+            y,
+        ),
+        4 => load(
+            kind,
+            flags,
+            count,
+            slots,
+            roots,
+            queue,
+            control,
+            freed,
+            x,
+            y,
+            z,
+        ),
+        _ => store(
+            kind,
+            flags,
+            count,
+            slots,
+            roots,
+            queue,
+            control,
+            freed,
+            x,
+            y,
+            z,
+        ),
+    }
+}
+
+// The call with this number, and its arguments as they are. What it frees it lists in `freed`, if that has room for every cell.
 fn numbered(
     kind: &mut [u16],
     flags: &mut [u16],
@@ -81,6 +145,7 @@ fn numbered(
     roots: &mut [u16],
     queue: &mut [u16],
     control: &mut [u16],
+    freed: &mut [u16],
     op: u16,
     x: usize,
     y: usize,
@@ -93,13 +158,24 @@ fn numbered(
 {
     match op {
         1 => new(kind, flags, count, slots, roots, queue, control, x, y, z),
-        2 => clear(kind, flags, count, slots, roots, queue, control, x),
-        3 => copy(kind, flags, count, slots, roots, queue, control, x, y),
-        4 => load(kind, flags, count, slots, roots, queue, control, x, y, z),
-        5 => store(kind, flags, count, slots, roots, queue, control, x, y, z),
-        6 => collect(kind, flags, count, slots, roots, queue, control),
+        2 => clear(kind, flags, count, slots, roots, queue, control, freed, x),
+        3..=5 => moving(
+            kind,
+            flags,
+            count,
+            slots,
+            roots,
+            queue,
+            control,
+            freed,
+            op,
+            x,
+            y,
+            z,
+        ),
+        6 => collect(kind, flags, count, slots, roots, queue, control, freed),
         7 => start(kind, flags, count, slots, roots, queue, control, x),
-        8 => finish(kind, flags, count, slots, roots, queue, control),
+        8 => finish(kind, flags, count, slots, roots, queue, control, freed),
         0 | 9..=65535 => refuse(LINE),
     }
 }
@@ -113,6 +189,7 @@ pub fn step(
     roots: &mut [u16],
     queue: &mut [u16],
     control: &mut [u16],
+    freed: &mut [u16],
     op: u16,
     x: usize,
     y: usize,
@@ -134,6 +211,7 @@ pub fn step(
         roots,
         queue,
         control,
+        freed,
         op,
         x,
         y,

@@ -96,11 +96,12 @@ module _ {h : Heap} (s : SoundBut h []) where
 
 -- ---- both rounds
 
-pub rounds-join : {k f n s m n₁ k′ f′ n′ s′ : List ℕ} {r : ℕ} → Unlinked s n (garbageOf k m) n₁ → Freed k f n₁ s (garbageOf k m) k′ f′ n′ s′ r
-    → Swept k f n s m k′ f′ n′ s′ r
+pub rounds-join : {k f n s m n₁ k′ f′ n′ s′ before after : List ℕ} {r : ℕ} → Unlinked s n (garbageOf k m) n₁ → Freed k f n₁ s (garbageOf k m) k′ f′ n′ s′ before 0 after r
+    → Swept k f n s m k′ f′ n′ s′ before after r
 rounds-join {k} {f} {m = m} a b = record {
   heap = λ t q w. b .heap t q w ∙ ap (λ (g : Heap). wipeAll g (garbageOf k m)) (a .heap k f t q w);
-  many = b .many;
+  many = omega (arith, b .many);
+  listed = b .listed;
 }
 
 -- ---- COLLECT
@@ -123,7 +124,7 @@ module _ {h : Heap} {n₁ q₁ w₁ m : List ℕ} {r : ℕ} (a : MarkedQueued h 
   )
 
 module _ {h : Heap} {n₁ q₁ w₁ m : List ℕ} {r : ℕ} (a : MarkedQueued h (tables (h .kind) (h .flags) n₁ (h .slots) (h .roots) q₁ w₁) m r)
-    {k′ f′ n′ s′ : List ℕ} {freed : ℕ} (b : Swept (h .kind) (h .flags) n₁ (h .slots) m k′ f′ n′ s′ freed) (size : length f′ ≡ cells h) where
+    {k′ f′ n′ s′ room list : List ℕ} {freed : ℕ} (b : Swept (h .kind) (h .flags) n₁ (h .slots) m k′ f′ n′ s′ room list freed) (size : length f′ ≡ cells h) where
   swept-is : tables k′ f′ n′ s′ (h .roots) q₁ w₁ ≡ swept h
   unfolding swept
   swept-is = b .heap (h .roots) q₁ w₁ ∙ (λ i. rounds (a .heap i) (dead a i))
@@ -132,13 +133,15 @@ module _ {h : Heap} {n₁ q₁ w₁ m : List ℕ} {r : ℕ} (a : MarkedQueued h 
   unfolding rescued
   rescued-are i = cond (eqb (queued h) 0) (select (isRescued (swept-is i .flags) (a .marked i)) (size i)) []
 
-  pub collect-joins : {waiting : ℕ} {f″ : List ℕ} → Decided waiting f′ m f″ → waiting ≡ queued h
-      → Collected h (tables k′ f″ n′ s′ (h .roots) q₁ w₁) (answers 0 freed r 0)
+  pub collect-joins : {waiting refused listed joined cell : ℕ} {f″ : List ℕ} → Decided waiting f′ m f″ → waiting ≡ queued h
+      → refused ≡ 0 → listed ≡ freed → joined ≡ r → cell ≡ 0 → Collected h room (tables k′ f″ n′ s′ (h .roots) q₁ w₁) list (answers refused listed joined cell)
   unfolding collect
-  collect-joins x e =
-      let saved = ap (λ (w : ℕ). cond (eqb w 0) (rescuedOf f′ m) []) e ∙ rescued-are in record {
+  collect-joins x e done all-listed all-joined none =
+      let saved = ap (λ (w : ℕ). cond (eqb w 0) (rescuedOf f′ m) []) e ∙ rescued-are in
+      let many = b .many ∙ ap length (dead a) in record {
         heap = x .restored .heap k′ n′ s′ (h .roots) q₁ w₁ ∙ (λ i. rescueAll (swept-is i) (saved i));
-        answered = let y = b .many ∙ ap length (dead a) in λ i. answers 0 (y i) (a .many i) 0;
+        listed = λ fits. ap (λ (i : ℕ). take i list) (sym many) ∙ b .listed fits ∙ ap (map suc) (dead a);
+        answered = λ i. answers (done i) ((all-listed ∙ many) i) ((all-joined ∙ a .many) i) (none i);
       }
 
 -- marks that are all unmarked: their number, and the part that is lent

@@ -1,12 +1,13 @@
--- Laws of the second round: one cell becomes free or none, cell after cell; the cells to come keep their kind.
+-- Laws of the second round: one cell becomes free and is listed, or none, cell after cell; the cells to come keep their kind.
 -- Assumes nothing.
-use Prim.Native.Nat.{ℕ, _+_, _*_, _≤_}
+use Prim.Native.Nat.{ℕ, suc, _+_, _*_, _≤_, _<_}
 use native.Mathlib.Omega.{arith}
-use mathlib.Core.List.{List, [], _++_}
+use mathlib.Core.List.{List, [], _∷_, _++_, map, map-append, append-nil, append-assoc}
 use mathlib.Core.Bool.{Bool, true, false, not, _&&_}
 use mathlib.Core.Path.{_≡_, refl, sym, ap, subst, _∙_}
 use lib.Dec.{eqb}
-use lib.ListN.{length, getD, length-append}
+use lib.ListN.{length, getD, take, set, length-append}
+use lib.Seq.{take-suc-set}
 use Rattle.rules.specs.Lists.{select}
 use Rattle.rules.specs.Heap.{Heap, tables}
 use Rattle.rules.specs.Collect.{wipeAll}
@@ -15,31 +16,53 @@ use Rattle.laws.specs.Lists.Pigeonhole.{pigeonhole}
 use Rattle.laws.specs.Collect.Wiping.{Wiped, wiped}
 use Rattle.laws.specs.Collect.Append.{wipe-append}
 use Rattle.freeing.specs.Freeing.{CellFreed}
-use Rattle.sweep.specs.Phases.{isGarbage, only, Same, Freed}
+use Rattle.sweep.specs.Phases.{isGarbage, garbageOf, only, Same, Freed}
+
+-- one entry of a table
+pub set-as : (l : List ℕ) {i e x y : ℕ} → i ≡ e → x ≡ y → set l i x ≡ set l e y
+set-as l at is = λ j. set l (at j) (is j)
 
 module _ {k f n s : List ℕ} where
-  pub freed-none : (c : ℕ) {b : Bool} → b ≡ false → Freed k f n s (only b c) k f n s 0
+  -- the list's end r is as it was
+  pub freed-none : (c : ℕ) {b : Bool} {l : List ℕ} {e r : ℕ} → b ≡ false → r ≡ e → Freed k f n s (only b c) k f n s l e l r
   unfolding wipeAll
-  freed-none c e = record { heap = λ t q w. rw e refl; many = rw e refl }
-
-  pub freed-one : {k′ f′ n′ s′ : List ℕ} (c : ℕ) {b : Bool} → b ≡ true
-      → CellFreed k f n s c k′ f′ n′ s′ → Freed k f n s (only b c) k′ f′ n′ s′ 1
-  unfolding wipeAll
-  freed-one c e z = record { heap = λ t q w. rw e (z .heap t q w); many = rw e refl }
-
-  pub freed-start : (p : ℕ → Bool) → Freed k f n s (select p 0) k f n s 0
-  unfolding wipeAll select
-  freed-start p = record { heap = λ t q w. refl; many = refl }
-
-  freed-then : {k′ f′ n′ s′ k″ f″ n″ s″ : List ℕ} {r r′ : ℕ} (l m : List ℕ) → Freed k f n s l k′ f′ n′ s′ r → Freed k′ f′ n′ s′ m k″ f″ n″ s″ r′
-      → Freed k f n s (l ++ m) k″ f″ n″ s″ (r + r′)
-  freed-then l m a b = record {
-    heap = λ t q w. b .heap t q w ∙ ap (λ (h : Heap). wipeAll h m) (a .heap t q w) ∙ sym (wipe-append (tables k f n s t q w) l m);
-    many = omega (arith, a .many, b .many, length-append l m);
+  freed-none c {b} {l} {e} fails same = record {
+    heap = λ t q w. rw fails refl;
+    many = rw fails (omega arith);
+    listed = λ room. rw fails (ap (λ (i : ℕ). take i l) same ∙ sym (append-nil (take e l)));
   }
 
--- cells below c were wiped where they are garbage
-module _ {k f n s k′ f′ n′ s′ : List ℕ} {r : ℕ} (m : List ℕ) (c : ℕ) (same : Same k f n s) (a : Freed k f n s (select (isGarbage k m) c) k′ f′ n′ s′ r) where
+  -- the cell's reference is written at the list's end i, if that is in the table
+  pub freed-one : {k′ f′ n′ s′ : List ℕ} (c : ℕ) {b : Bool} {l l′ : List ℕ} {e i r : ℕ} → b ≡ true → CellFreed k f n s c k′ f′ n′ s′
+      → (i < length l → l′ ≡ set l i (c + 1)) → i ≡ e → e ≤ c → c < length k → r ≡ e + 1 → Freed k f n s (only b c) k′ f′ n′ s′ l e l′ r
+  unfolding wipeAll
+  freed-one c {b} {l} {e = e} passes z written at few inside next = record {
+    heap = λ t q w. rw passes (z .heap t q w);
+    many = rw passes (omega arith);
+    listed = λ room. rw passes ((λ j. take (next j) (written (omega arith) j)) ∙ (λ j. take (e + 1) (set l (at j) (c + 1))) ∙ listed-one (omega arith));
+  }
+    where
+      listed-one : e < length l → take (e + 1) (set l e (c + 1)) ≡ take e l ++ (suc c ∷ [])
+      listed-one stands =
+          let end : e + 1 ≡ suc e = omega arith in
+          let is : c + 1 ≡ suc c = omega arith in
+          (λ j. take (end j) (set l e (is j))) ∙ take-suc-set l e (suc c) stands
+
+  pub freed-start : (p : ℕ → Bool) (l : List ℕ) {r : ℕ} → r ≡ 0 → Freed k f n s (select p 0) k f n s l 0 l r
+  unfolding wipeAll select
+  freed-start p l none = record { heap = λ t q w. refl; many = none; listed = λ room. ap (λ (i : ℕ). take i l) none }
+
+  freed-then : {k′ f′ n′ s′ k″ f″ n″ s″ l₀ l₁ l₂ : List ℕ} {e r r′ : ℕ} (l m : List ℕ) → length k′ ≡ length k → length l₁ ≡ length l₀
+      → Freed k f n s l k′ f′ n′ s′ l₀ e l₁ r → Freed k′ f′ n′ s′ m k″ f″ n″ s″ l₁ r l₂ r′ → Freed k f n s (l ++ m) k″ f″ n″ s″ l₀ e l₂ r′
+  freed-then {l₀ = l₀} {e = e} l m cells size a b = record {
+    heap = λ t q w. b .heap t q w ∙ ap (λ (h : Heap). wipeAll h m) (a .heap t q w) ∙ sym (wipe-append (tables k f n s t q w) l m);
+    many = omega (arith, a .many, b .many, length-append l m);
+    listed = λ room. b .listed (omega arith) ∙ ap (λ (x : List ℕ). x ++ map suc m) (a .listed room) ∙ append-assoc (take e l₀) (map suc l) (map suc m)
+        ∙ ap (λ (x : List ℕ). take e l₀ ++ x) (sym (map-append suc l m));
+  }
+
+-- cells below c were wiped and listed where they are garbage
+module _ {k f n s k′ f′ n′ s′ l₀ l₁ : List ℕ} {r : ℕ} (m : List ℕ) (c : ℕ) (same : Same k f n s) (a : Freed k f n s (select (isGarbage k m) c) k′ f′ n′ s′ l₀ 0 l₁ r) where
   h : Heap
   h = tables k f n s [] [] []
 
@@ -68,19 +91,23 @@ module _ {k f n s k′ f′ n′ s′ : List ℕ} {r : ℕ} (m : List ℕ) (c : 
   kept = ap (λ (g : Heap). getD (g .kind) c 0) is ∙ gone .kindOut c (select-new (isGarbage k m) c)
 
   -- so the test reads what it read at first
-  pub freed-next : {k″ f″ n″ s″ : List ℕ} {r′ : ℕ} → Freed k′ f′ n′ s′ (only (isGarbage k′ m c) c) k″ f″ n″ s″ r′
-      → Freed k f n s (select (isGarbage k m) (c + 1)) k″ f″ n″ s″ (r + r′)
-  freed-next {k″} {f″} {n″} {s″} {r′} b =
+  pub freed-next : {k″ f″ n″ s″ l₂ : List ℕ} {from end r′ : ℕ} → Freed k′ f′ n′ s′ (only (isGarbage k′ m c) c) k″ f″ n″ s″ l₁ from l₂ r′ → from ≡ r → end ≡ r′
+      → length l₁ ≡ length l₀ → Freed k f n s (select (isGarbage k m) (c + 1)) k″ f″ n″ s″ l₀ 0 l₂ end
+  freed-next {k″} {f″} {n″} {s″} {l₂} {from} {end} {r′} b at next size =
       let e : isGarbage k′ m c ≡ isGarbage k m c = ap (λ (x : ℕ). not (eqb x 0) && eqb (getD m c 0) 0) kept in
-      let b₁ : Freed k′ f′ n′ s′ (only (isGarbage k m c) c) k″ f″ n″ s″ r′ = subst (λ (z : Bool). Freed k′ f′ n′ s′ (only z c) k″ f″ n″ s″ r′) e b in
-      subst (λ (l : List ℕ). Freed k f n s l k″ f″ n″ s″ (r + r′)) (sym (select-next (isGarbage k m) c)) (freed-then (select (isGarbage k m) c) (only (isGarbage k m c) c) a b₁)
+      let b₁ : Freed k′ f′ n′ s′ (only (isGarbage k m c) c) k″ f″ n″ s″ l₁ r l₂ end =
+      subst (λ (y : ℕ). Freed k′ f′ n′ s′ (only (isGarbage k m c) c) k″ f″ n″ s″ l₁ r l₂ y) (sym next)
+      (subst (λ (x : ℕ). Freed k′ f′ n′ s′ (only (isGarbage k m c) c) k″ f″ n″ s″ l₁ x l₂ r′) at
+      (subst (λ (z : Bool). Freed k′ f′ n′ s′ (only z c) k″ f″ n″ s″ l₁ from l₂ r′) e b)) in
+      subst (λ (l : List ℕ). Freed k f n s l k″ f″ n″ s″ l₀ 0 l₂ end) (sym (select-next (isGarbage k m) c))
+      (freed-then (select (isGarbage k m) c) (only (isGarbage k m c) c) freed-length size a b₁)
 
--- the number freed stays small
-only-short : (b : Bool) (c : ℕ) → length (only b c) ≤ 1
-only-short true c = omega arith
-only-short false c = omega arith
+  -- no more cells are listed than were looked at
+  pub freed-few : r ≤ c
+  freed-few = omega (arith, a .many, pigeonhole c (select (isGarbage k m) c) (select-once (isGarbage k m) c) (λ z o. select-only (isGarbage k m) c z o .0))
 
-pub freed-small : {k f n s k′ f′ n′ s′ k″ f″ n″ s″ : List ℕ} {r r′ : ℕ} (p : ℕ → Bool) (c : ℕ) (b : Bool) → Freed k f n s (select p c) k′ f′ n′ s′ r
-    → Freed k′ f′ n′ s′ (only b c) k″ f″ n″ s″ r′ → r + r′ ≤ c + 1
-freed-small p c b x y =
-    omega (arith, x .many, y .many, only-short b c, pigeonhole c (select p c) (select-once p c) (λ z o. select-only p c z o .0))
+  -- every cell was looked at
+  pub freed-all : {end : ℕ} → c ≡ length k → end ≡ r → Freed k f n s (garbageOf k m) k′ f′ n′ s′ l₀ 0 l₁ end
+  freed-all {end} all at =
+      subst (λ (x : ℕ). Freed k f n s (select (isGarbage k m) x) k′ f′ n′ s′ l₀ 0 l₁ end) all
+      (subst (λ (x : ℕ). Freed k f n s (select (isGarbage k m) c) k′ f′ n′ s′ l₀ 0 l₁ x) (sym at) a)

@@ -1,14 +1,14 @@
 -- What each part of COLLECT does to the tables that it is lent: an equation with the rules' definition, whatever stands in the other tables.
 -- Assumes nothing: these are definitions.
-use Prim.Native.Nat.{ℕ, _+_, _*_, _≤_, _<_}
-use mathlib.Core.List.{List, [], _∷_}
+use Prim.Native.Nat.{ℕ, suc, _+_, _*_, _≤_, _<_}
+use mathlib.Core.List.{List, [], _∷_, _++_, map}
 use mathlib.Core.Bool.{Bool, not, _&&_, cond}
 use mathlib.Core.Path.{_≡_}
 use lib.Dec.{eqb}
-use lib.ListN.{length, getD}
+use lib.ListN.{length, getD, take}
 use Rattle.rules.specs.declared.Answer.{Answer}
 use Rattle.rules.specs.Lists.{occ, select}
-use Rattle.rules.specs.Heap.{Heap, tables}
+use Rattle.rules.specs.Heap.{Heap, tables, cells}
 use Rattle.rules.specs.Collect.{enqueueAll, unreachedFinalizable, keptMarks, lowerAll, unlinkAll, wipeAll, rescueAll, collect}
 use Rattle.rules.specs.Calls.{answers}
 use Rattle.laws.specs.Sound.But.{Fit}
@@ -68,10 +68,12 @@ pub record Same (kind flags count slots : List ℕ) : Type 0 where
   pub count-size : length count ≡ length kind
   pub slots-size : length slots ≡ 8 * length kind
 
--- the cells l were freed, and counted
-pub record Freed (kind flags count slots l kind′ flags′ count′ slots′ : List ℕ) (r : ℕ) : Type 0 where
+-- The cells l were freed, and their references, in order, joined the list: it ended at `from` in `before`, and ends at r in `after`. That is said of a table
+-- that has room for every cell, and nothing of another.
+pub record Freed (kind flags count slots l kind′ flags′ count′ slots′ before : List ℕ) (from : ℕ) (after : List ℕ) (r : ℕ) : Type 0 where
   pub heap : (t q w : List ℕ) → tables kind′ flags′ count′ slots′ t q w ≡ wipeAll (tables kind flags count slots t q w) l
-  pub many : r ≡ length l
+  pub many : r ≡ from + length l
+  pub listed : length kind ≤ length before → take r after ≡ take from before ++ map suc l
 
 -- the cells l got flags 1
 pub record Restored (flags l flags′ : List ℕ) : Type 0 where
@@ -93,12 +95,14 @@ pub record MarkedQueued (h after : Heap) (marks : List ℕ) (r : ℕ) : Type 0 w
 abbrev pub rounds : Heap → List ℕ → Heap
 rounds h l = wipeAll (unlinkAll h l) l
 
--- both rounds over the garbage, which was counted
-pub record Swept (kind flags count slots marks kind′ flags′ count′ slots′ : List ℕ) (r : ℕ) : Type 0 where
+-- both rounds over the garbage, which was counted and listed
+pub record Swept (kind flags count slots marks kind′ flags′ count′ slots′ room list : List ℕ) (r : ℕ) : Type 0 where
   pub heap : (t q w : List ℕ) → tables kind′ flags′ count′ slots′ t q w ≡ rounds (tables kind flags count slots t q w) (garbageOf kind marks)
   pub many : r ≡ length (garbageOf kind marks)
+  pub listed : length kind ≤ length room → take r list ≡ map suc (garbageOf kind marks)
 
--- every table is as the rules' COLLECT leaves it, and the answer counts what it freed and queued
-pub record Collected (h after : Heap) (answer : Answer) : Type 0 where
+-- every table is as the rules' COLLECT leaves it, the list begins with the references of what it freed, and the answer counts what it freed and queued
+pub record Collected (h : Heap) (room : List ℕ) (after : Heap) (list : List ℕ) (answer : Answer) : Type 0 where
   pub heap : after ≡ collect h .heap
+  pub listed : cells h ≤ length room → take (length (collect h .freed)) list ≡ map suc (collect h .freed)
   pub answered : answer ≡ answers 0 (length (collect h .freed)) (length (collect h .queued)) 0

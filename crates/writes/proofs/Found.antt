@@ -2,7 +2,7 @@
 -- Assumes nothing.
 use Prim.Native.Nat.{ℕ, zero, suc, _≤_, _<_}
 use native.Mathlib.Omega.{arith}
-use mathlib.Core.List.{[]}
+use mathlib.Core.List.{List, []}
 use mathlib.Core.Bool.{false}
 use mathlib.Core.Logic.{_⊎_, _≢_, inl, inr}
 use mathlib.Core.Path.{_≡_, refl, sym, ap, _∙_}
@@ -10,12 +10,12 @@ use Rattle.rules.specs.declared.Answer.{Answer}
 use Rattle.rules.specs.Heap.{Heap, cells, kindOf, rootAt, Used}
 use Rattle.rules.specs.Sound.{Ready}
 use Rattle.rules.specs.Refusals.{Call, isFresh, refusalSound}
-use Rattle.rules.specs.Calls.{answers, held, Did}
+use Rattle.rules.specs.Calls.{answers, held}
 use Rattle.laws.specs.Lists.Tables.{inside}
 use Rattle.laws.specs.Sound.Facts.{ready-facts}
 use Rattle.laws.specs.Reach.Used.{root-used}
 use Rattle.writes.specs.Objects.{Holding}
-use Rattle.laws.specs.Calls.Admission.{inner-refused}
+use Rattle.laws.specs.Calls.Inner.{Ran, inner-refused}
 
 -- what names a used cell, or nothing, is at most the number of cells
 within : (h : Heap) (x : ℕ) → ((c : ℕ) → x ≡ suc c → Used h c) → x ≤ cells h
@@ -29,10 +29,10 @@ holding-ready {h} {holder} ok small =
 
 -- ---- a call that did not find its object
 
-pub object-refused : {h : Heap} {call : Call} {holder o why : ℕ} {a : Answer} → Ready h → isFresh call ≡ false
+pub object-refused : {h : Heap} {room : List ℕ} {call : Call} {holder o why : ℕ} {a : Answer} → Ready h → isFresh call ≡ false
     → (rootAt h o ≡ 0 → refusalSound h call ≡ 4) → (rootAt h o ≢ 0 → kindOf h (held h o) ≢ 1 → refusalSound h call ≡ 5) → holder ≡ o
     → ((rootAt h holder ≡ 0) × (why ≡ 4)) ⊎ ((rootAt h holder ≢ 0) × (kindOf h (held h holder) ≢ 1) × (why ≡ 5))
-    → a ≡ answers why 0 0 0 → Did call h h a
+    → a ≡ answers why 0 0 0 → Ran call h room h room a
 object-refused ok other empty kind same (inl e) a = inner-refused ok other (empty (rw same at (e .0)) ∙ sym (e .1)) (λ z. omega arith) a
 object-refused ok other empty kind same (inr e) a = inner-refused ok other (kind (rw same at (e .0)) (rw same at (e .1)) ∙ sym (e .2)) (λ z. omega arith) a
 

@@ -1,4 +1,4 @@
-// The calls that write a reference, each on a sound heap.
+// The calls that write a reference, each on a sound heap. The cells that a call frees it lists in `freed`, if that has room for every cell.
 mod loading;
 mod objects;
 mod roots;

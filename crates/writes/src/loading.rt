@@ -1,8 +1,8 @@
 // LOAD: a root is written with what a slot holds.
 ghost use Rattle.rules.specs.Heap.{tables};
 ghost use Rattle.rules.specs.Sound.{Ready};
-ghost use Rattle.rules.specs.Calls.{Did};
 ghost use Rattle.rules.specs.Refusals.Call.{LOAD};
+ghost use Rattle.laws.specs.Calls.Inner.{Ran};
 use crate::objects::Object;
 use crate::objects::object_of;
 use answers::refuse;
@@ -23,14 +23,15 @@ pub fn load(
     roots: &mut [u16],
     queue: &mut [u16],
     control: &mut [u16],
+    freed: &mut [u16],
     to: usize,
     object: usize,
     slot: usize,
 ) -> Answer
     requires { ⌜ Ready (tables (now kind) (now flags) (now count) (now slots) (now roots) (now queue) (now control)) ⌝ }
-    ensures { λ r. ⌜ Did (LOAD to object slot)
-        (tables (now (kind .entry)) (now (flags .entry)) (now (count .entry)) (now (slots .entry)) (now (roots .entry)) (now (queue .entry)) (now (control .entry)))
-        (tables (now (kind .exit)) (now (flags .exit)) (now (count .exit)) (now (slots .exit)) (now (roots .exit)) (now (queue .exit)) (now (control .exit))) r ⌝ }
+    ensures { λ r. ⌜ Ran (LOAD to object slot)
+        (tables (now (kind .entry)) (now (flags .entry)) (now (count .entry)) (now (slots .entry)) (now (roots .entry)) (now (queue .entry)) (now (control .entry))) (now (freed .entry))
+        (tables (now (kind .exit)) (now (flags .exit)) (now (count .exit)) (now (slots .exit)) (now (roots .exit)) (now (queue .exit)) (now (control .exit))) (now (freed .exit)) r ⌝ }
 {
     let RootNumber::Is(target) = Root::of(to) else {
         return refuse(NUMBER);
@@ -45,7 +46,18 @@ pub fn load(
         Object::Refused(why) => refuse(why),
         Object::Is(cell) => {
             let r = slots[8 * cell.index() + at.index()];
-            write_root(kind, flags, count, slots, roots, queue, control, target, r)
+            write_root(
+                kind,
+                flags,
+                count,
+                slots,
+                roots,
+                queue,
+                control,
+                freed,
+                target,
+                r,
+            )
         }
     }
 }

@@ -1,8 +1,8 @@
 // STORE: a slot is written with what a root holds.
 ghost use Rattle.rules.specs.Heap.{tables};
 ghost use Rattle.rules.specs.Sound.{Ready};
-ghost use Rattle.rules.specs.Calls.{Did};
 ghost use Rattle.rules.specs.Refusals.Call.{STORE};
+ghost use Rattle.laws.specs.Calls.Inner.{Ran};
 use crate::objects::Object;
 use crate::objects::object_of;
 use answers::refuse;
@@ -23,14 +23,15 @@ pub fn store(
     roots: &[u16],
     queue: &mut [u16],
     control: &mut [u16],
+    freed: &mut [u16],
     object: usize,
     slot: usize,
     from: usize,
 ) -> Answer
     requires { ⌜ Ready (tables (now kind) (now flags) (now count) (now slots) (now roots) (now queue) (now control)) ⌝ }
-    ensures { λ r. ⌜ Did (STORE object slot from)
-        (tables (now (kind .entry)) (now (flags .entry)) (now (count .entry)) (now (slots .entry)) (now (roots .entry)) (now (queue .entry)) (now (control .entry)))
-        (tables (now (kind .exit)) (now (flags .exit)) (now (count .exit)) (now (slots .exit)) (now (roots .entry)) (now (queue .exit)) (now (control .exit))) r ⌝ }
+    ensures { λ r. ⌜ Ran (STORE object slot from)
+        (tables (now (kind .entry)) (now (flags .entry)) (now (count .entry)) (now (slots .entry)) (now (roots .entry)) (now (queue .entry)) (now (control .entry))) (now (freed .entry))
+        (tables (now (kind .exit)) (now (flags .exit)) (now (count .exit)) (now (slots .exit)) (now (roots .entry)) (now (queue .exit)) (now (control .exit))) (now (freed .exit)) r ⌝ }
 {
     let RootNumber::Is(holder) = Root::of(object) else {
         return refuse(NUMBER);
@@ -45,7 +46,18 @@ pub fn store(
         Object::Refused(why) => refuse(why),
         Object::Is(cell) => {
             let r = roots[source.index()];
-            write_slot(kind, flags, count, slots, queue, control, cell, at, r)
+            write_slot(
+                kind,
+                flags,
+                count,
+                slots,
+                queue,
+                control,
+                freed,
+                cell,
+                at,
+                r,
+            )
         }
     }
 }

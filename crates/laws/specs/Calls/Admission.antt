@@ -5,15 +5,14 @@ use native.Mathlib.Omega.{arith}
 use mathlib.Core.List.{List}
 use mathlib.Core.Bool.{true, false, cond}
 use mathlib.Core.Logic.{_≢_, _⊎_, inl, inr, ⊎-elim}
-use mathlib.Core.Path.{_≡_, refl, sym, ap, _∙_, subst⁻¹}
+use mathlib.Core.Path.{_≡_, refl, sym, _∙_}
 use lib.ListN.{length, replicate, length-replicate}
-use Rattle.rules.specs.declared.Answer.{Answer}
 use Rattle.rules.specs.Heap.{Heap, tables, cells, fresh}
 use Rattle.rules.specs.Sound.{Sized, Ready}
 use Rattle.rules.specs.Check.{fits, sound}
 use Rattle.rules.specs.Refusals.{Call, number, lowest, conditions, isFresh, refusal, refusalSound}
 use Rattle.rules.specs.Refusals.Call.{FRESH}
-use Rattle.rules.specs.Calls.{Result, answers, refuse, done, act, byRefusal, step, Did}
+use Rattle.rules.specs.Calls.{answers, refuse, done, act, byRefusal, step}
 use Rattle.laws.specs.Lists.Tests.{split}
 use Rattle.laws.specs.Lists.Tables.{getD-zeros}
 use Rattle.laws.specs.Sound.Reflect.{sized-fits}
@@ -29,22 +28,6 @@ step-refused h call (suc r) e n = rw (← e) refl
 pub step-done : (h : Heap) (call : Call) → refusal h call ≡ 0 → step h call ≡ act h call
 unfolding step byRefusal
 step-done h call e = rw e refl
-
--- a call that did as `step` says
-pub did-refuse : (h : Heap) (call : Call) (r : ℕ) → r ≡ refusal h call → r ≢ 0 → Did call h h (answers r 0 0 0)
-unfolding refuse
-did-refuse h call r e n =
-    let s = step-refused h call r e n in
-    record { heap = sym (ap (λ (x : Result). x .heap) s); answered = sym (ap (λ (x : Result). x .answer) s) }
-
-pub did-act : (h after : Heap) (call : Call) (a : Answer) → refusal h call ≡ 0 → after ≡ act h call .heap → a ≡ act h call .answer → Did call h after a
-did-act h after call a e f g =
-    let s = step-done h call e in
-    record { heap = f ∙ sym (ap (λ (x : Result). x .heap) s); answered = g ∙ sym (ap (λ (x : Result). x .answer) s) }
-
--- what holds of the tables and the answer that `step` gives holds of those of the call
-pub did-as : {call : Call} {h after : Heap} {a : Answer} (P : Heap → Answer → Type 0) → Did call h after a → P (step h call .heap) (step h call .answer) → P after a
-did-as {call} {h} {a = a} P d p = subst⁻¹ (λ (g : Heap). P g a) (d .heap) (subst⁻¹ (λ (b : Answer). P (step h call .heap) b) (d .answered) p)
 
 -- heaps of equal tables
 pub tables-eq : {k k′ f f′ n n′ s s′ r r′ q q′ w w′ : List ℕ} → k ≡ k′ → f ≡ f′ → n ≡ n′ → s ≡ s′ → r ≡ r′ → q ≡ q′ → w ≡ w′
@@ -157,26 +140,3 @@ fresh-ready n l m =
         rule6 = λ c u. absurd (omega (arith, getD-zeros n c));
       };
     }
-
--- ---- an entry for C
-
--- `admit` answered a refusal, which the call answers
-pub outer-refused : {h : Heap} {call : Call} {why : ℕ} {a : Answer} → isFresh call ≡ false → why ≡ admission h → why ≢ 0 → a ≡ answers why 0 0 0
-    → Did call h h a
-outer-refused {h} {call} {why} n e some a = rw a (did-refuse h call why (e ∙ not-admitted h call n (λ z. some (e ∙ z))) some)
-
--- `admit` answered DONE, so the inner function may go on
-pub outer-ready : {h : Heap} {why : ℕ} → why ≡ admission h → why ≡ 0 → Ready h
-outer-ready {h} e z = ready h (sym e ∙ z)
-
--- ---- an inner function
-
--- refused by one of the call's own conditions, of `Calls.Cases`
-pub inner-refused : {h : Heap} {call : Call} {why : ℕ} {a : Answer} → Ready h → isFresh call ≡ false → refusalSound h call ≡ why → why ≢ 0 → a ≡ answers why 0 0 0
-    → Did call h h a
-inner-refused {h} {call} {why} r n e some a = rw a (did-refuse h call why (sym (ready-refused h call r n ∙ e)) some)
-
--- none of them, and done
-pub inner-done : {h after : Heap} {call : Call} {a : Answer} → Ready h → isFresh call ≡ false → refusalSound h call ≡ 0
-    → after ≡ act h call .heap → a ≡ act h call .answer → Did call h after a
-inner-done {h} {after} {call} {a} r n e heap answered = did-act h after call a (ready-refused h call r n ∙ e) heap answered

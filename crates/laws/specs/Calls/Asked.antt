@@ -1,18 +1,20 @@
 -- Laws of the call that four numbers name, and of what it does. Assumes nothing.
 use Prim.Native.Nat.{ℕ, zero, suc, _≤_, _<_}
 use native.Mathlib.Omega.{arith}
-use mathlib.Core.Path.{_≡_, refl}
+use mathlib.Core.List.{List}
+use mathlib.Core.Path.{_≡_, refl, sym, ap, _∙_}
 use mathlib.Core.Logic.{_≢_, _⊎_, inl, inr}
 use mathlib.Core.Bool.{Bool, true, false, cond}
 use lib.ListN.{List·getD-eq-default}
 use Rattle.rules.specs.declared.Answer.{Answer}
 use Rattle.rules.specs.Heap.{Heap}
 use Rattle.rules.specs.Refusals.{Call, isFresh}
-use Rattle.rules.specs.Calls.{Did, answers, refuse}
+use Rattle.rules.specs.Calls.{Result, answers, refuse, step}
 use Rattle.rules.specs.Asked.{Asked, uses, unusedZero, callsByNumber, callNumbered, callOf, isCall, obey, Obeyed}
 use Rattle.rules.specs.Asked.Asked.{call, LINE}
 use Rattle.laws.specs.Lists.Tests.{clash}
-use Rattle.laws.specs.Calls.Admission.{admission, outer-refused}
+use Rattle.laws.specs.Calls.Admission.{admission, not-admitted, step-refused}
+use Rattle.laws.specs.Calls.Inner.{Ran}
 
 -- a number is one of 0 to 8, or above
 by-number : (P : ℕ → Type 0) → P 0 → P 1 → P 2 → P 3 → P 4 → P 5 → P 6 → P 7 → P 8
@@ -47,21 +49,14 @@ pub call-used : (n x y z : ℕ) → unusedZero (uses n) x y z ≡ true → callO
 unfolding callOf
 call-used n x y z h = rw h refl
 
--- `omega` splits on at most six numbers that n is not
-from-five : (n : ℕ) → (n ≡ 0 → ⊥) → (n ≡ 1 → ⊥) → (n ≡ 2 → ⊥) → (n ≡ 3 → ⊥) → (n ≡ 4 → ⊥) → 5 ≤ n
-from-five n a b c d e = omega arith
-
-from-nine : (n : ℕ) → 5 ≤ n → (n ≡ 5 → ⊥) → (n ≡ 6 → ⊥) → (n ≡ 7 → ⊥) → (n ≡ 8 → ⊥) → 9 ≤ n
-from-nine n h a b c d = omega arith
-
--- none of the numbers of calls, in their order and 0 last
-pub numbered-other : (n x y z : ℕ) → (n ≡ 1 → ⊥) → (n ≡ 2 → ⊥) → (n ≡ 3 → ⊥) → (n ≡ 4 → ⊥) → (n ≡ 5 → ⊥) → (n ≡ 6 → ⊥) → (n ≡ 7 → ⊥) → (n ≡ 8 → ⊥) → (n ≡ 0 → ⊥) → callNumbered n x y z ≡ LINE
-numbered-other n x y z a b c d e f g h i = none-numbered n x y z (from-nine n (from-five n i a b c d) e f g h)
+-- none of the numbers of calls
+pub numbered-other : (n x y z : ℕ) → 6 ≤ n → (n ≡ 6 → ⊥) → (n ≡ 7 → ⊥) → (n ≡ 8 → ⊥) → callNumbered n x y z ≡ LINE
+numbered-other n x y z l a b c = none-numbered n x y z (omega arith)
 
 -- a call that was done
-pub obeyed-call : (h k : Heap) (q : Asked) (c : Call) (a : Answer) → q ≡ call c → Did c h k a → Obeyed q h k a
+pub obeyed-call : (h k : Heap) (q : Asked) (c : Call) (a : Answer) {room list : List ℕ} → q ≡ call c → Ran c h room k list a → Obeyed q h k a
 unfolding obey
-obeyed-call h k q c a e d = rw e (record { heap = d .heap; answered = d .answered })
+obeyed-call h k q c a e r = rw e (record { heap = r .heap; answered = r .answered })
 
 pub obeyed-line : (h : Heap) (q : Asked) (a : Answer) → q ≡ LINE → a ≡ answers 11 0 0 0 → Obeyed q h h a
 unfolding obey refuse
@@ -115,8 +110,10 @@ never-fresh n x y z = go (unusedZero (uses n) x y z)
 -- a call is refused by the number that `admission` gives
 pub obeyed-refused : (q : Asked) {h : Heap} {why : ℕ} {a : Answer} → asksFresh q ≡ false → isCall q ≡ true → why ≡ admission h → why ≢ 0 → a ≡ answers why 0 0 0
     → Obeyed q h h a
-unfolding asksFresh isCall
-obeyed-refused (call c) {h} {why} {a} f n e some w = obeyed-call h h (call c) c a refl (outer-refused f e some w)
+unfolding asksFresh isCall obey refuse
+obeyed-refused (call c) {h} {why} {a} f n e some w =
+    let s : step h c ≡ refuse h why = step-refused h c why (e ∙ not-admitted h c f (λ z. some (e ∙ z))) some in
+    record { heap = sym (ap (λ (x : Result). x .heap) s); answered = w ∙ sym (ap (λ (x : Result). x .answer) s) }
 obeyed-refused LINE f n e some w = absurd (clash n refl)
 
 -- and what is no call stays LINE

@@ -36,19 +36,19 @@ lowest-open (k ∷ l) e =
     ⊎-elim (λ t. absurd (omega (arith, number-some (k .reason), rw t at e))) (λ f. (f, lowest-open l (rw f at e))) (split (k .given))
 
 -- each says what the table says, where those before it are not given
-abbrev pub Judges : Heap → Call → List Condition → Type 0
-Judges h call [] = Unit
-Judges h call (k ∷ l) = (k .given ≡ true → Why (k .reason) h call) × (k .given ≡ false → Judges h call l)
+abbrev pub Judges : Heap → List ℕ → Call → List Condition → Type 0
+Judges h lent call [] = Unit
+Judges h lent call (k ∷ l) = (k .given ≡ true → Why (k .reason) h lent call) × (k .given ≡ false → Judges h lent call l)
 
 -- a number that refuses a call, or 0
-abbrev Verdict : Heap → Call → ℕ → Type 0
-Verdict h call n = (n ≡ 0) ⊎ ((k : Reason) × (n ≡ number k) × Why k h call)
+abbrev pub Verdict : Heap → List ℕ → Call → ℕ → Type 0
+Verdict h lent call n = (n ≡ 0) ⊎ ((k : Reason) × (n ≡ number k) × Why k h lent call)
 
-pub judged : (h : Heap) (call : Call) (l : List Condition) → Judges h call l → Verdict h call (lowest l)
+pub judged : (h : Heap) (lent : List ℕ) (call : Call) (l : List Condition) → Judges h lent call l → Verdict h lent call (lowest l)
 unfolding lowest
-judged h call [] j = inl refl
-judged h call (k ∷ l) j =
-    ⊎-elim (λ t. rw t (inr (k .reason, refl, j .0 t))) (λ f. rw f (judged h call l (j .1 f))) (split (k .given))
+judged h lent call [] j = inl refl
+judged h lent call (k ∷ l) j =
+    ⊎-elim (λ t. rw t (inr (k .reason, refl, j .0 t))) (λ f. rw f (judged h lent call l (j .1 f))) (split (k .given))
 
 -- one is given, and it and those before it have numbers up to n
 abbrev pub Given : ℕ → List Condition → Type 0

@@ -40,6 +40,7 @@ pub record Performed (h : Heap) (call : Call) (r : Result) : Type 0 where
   pub outcome : Outcome h (stood h call 0) (leaving call 0) (actMet h call) (placed h call) work
   pub heap : r .heap ≡ work .heap
   pub refused : r .answer .refused ≡ 0
+  pub list : r .freed ≡ work .freed
   pub freed : r .answer .freed ≡ length (work .freed)
   pub queued : r .answer .queued ≡ length (work .queued)
 
@@ -112,13 +113,22 @@ module _ (h : Heap) (s : SoundBut h []) where
   pub performed : (call : Call) → isFresh call ≡ false → refusalSound h call ≡ 0 → Performed h call (act h call)
   unfolding isFresh act done finished stood leaving start actMet placed named
   performed FRESH n e = clash refl n
-  performed (NEW r k f) n e = record { work = start (allocate h r k f (lowestFree (h .kind))); outcome = new-outcome r k f e; heap = refl; refused = refl; freed = refl; queued = refl }
-  performed (CLEAR r) n e = record { work = writeRoot h r 0; outcome = root-outcome r 0 (clear-facts h r e) (λ c z. absurd (omega arith)); heap = refl; refused = refl; freed = refl; queued = refl }
+  performed (NEW r k f) n e = record { work = start (allocate h r k f (lowestFree (h .kind))); outcome = new-outcome r k f e; heap = refl; refused = refl; list = refl; freed = refl; queued = refl }
+  performed (CLEAR r) n e = record {
+    work = writeRoot h r 0;
+    outcome = root-outcome r 0 (clear-facts h r e) (λ c z. absurd (omega arith));
+    heap = refl;
+    refused = refl;
+    list = refl;
+    freed = refl;
+    queued = refl;
+  }
   performed (COPY to from) n e = record {
     work = writeRoot h to (rootAt h from);
     outcome = root-outcome to (rootAt h from) (copy-facts h to from e .0) (root-used h [] s from);
     heap = refl;
     refused = refl;
+    list = refl;
     freed = refl;
     queued = refl;
   }
@@ -127,6 +137,7 @@ module _ (h : Heap) (s : SoundBut h []) where
     outcome = root-outcome to (slotOf h (held h o) i) (load-facts h to o i e .0) (slot-used h [] s (8 * held h o + i));
     heap = refl;
     refused = refl;
+    list = refl;
     freed = refl;
     queued = refl;
   }
@@ -138,9 +149,10 @@ module _ (h : Heap) (s : SoundBut h []) where
         slot-outcome (held h o) i (rootAt h from) (t .1) (ap (kindOf h) is ∙ t .3 .2) (root-used h [] s from);
     heap = refl;
     refused = refl;
+    list = refl;
     freed = refl;
     queued = refl;
   }
-  performed COLLECT n e = record { work = collect h; outcome = outcome-collect h s; heap = refl; refused = refl; freed = refl; queued = refl }
-  performed (START r) n e = record { work = start (startRun h r); outcome = start-outcome r e; heap = refl; refused = refl; freed = refl; queued = refl }
-  performed FINISH n e = record { work = finishRun h; outcome = finish-outcome (finish-facts h e); heap = refl; refused = refl; freed = refl; queued = refl }
+  performed COLLECT n e = record { work = collect h; outcome = outcome-collect h s; heap = refl; refused = refl; list = refl; freed = refl; queued = refl }
+  performed (START r) n e = record { work = start (startRun h r); outcome = start-outcome r e; heap = refl; refused = refl; list = refl; freed = refl; queued = refl }
+  performed FINISH n e = record { work = finishRun h; outcome = finish-outcome (finish-facts h e); heap = refl; refused = refl; list = refl; freed = refl; queued = refl }

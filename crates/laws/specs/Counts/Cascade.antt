@@ -73,5 +73,5 @@ release-noted w r extra e s =
     let t : Settled w (r ∷ extra ++ w .heap .roots) = sound-settled w (r ∷ extra) e s in
     let d : Draining w [] (r ∷ extra ++ w .heap .roots) = t .draining in
     noted-then (met (w .heap) r) (drainMet (length (w .heap .kind)) (decref w r))
-    (decref-noted w [] [] r (w .heap .slots ++ (extra ++ w .heap .roots)) (release-due w r (extra ++ w .heap .roots) d))
-    (drain-noted (length (w .heap .kind)) (decref w r) [] (extra ++ w .heap .roots) (decref-draining w r (extra ++ w .heap .roots) d))
+    (decref-noted w [] [] r (w .heap .slots ++ (extra ++ w .heap .roots)) (release-due w r [] (extra ++ w .heap .roots) d))
+    (drain-noted (length (w .heap .kind)) (decref w r) [] (extra ++ w .heap .roots) (decref-draining w r [] (extra ++ w .heap .roots) d))

@@ -2,8 +2,9 @@
 -- Assumes nothing.
 use Prim.Native.Nat.{ℕ, zero, suc, _+_, _<_}
 use native.Mathlib.Omega.{arith}
-use mathlib.Core.List.{[], _∷_}
+use mathlib.Core.List.{List, [], _∷_}
 use mathlib.Core.Bool.{false}
+use mathlib.Core.Logic.{⊎-elim}
 use mathlib.Core.Path.{_≡_, refl, sym, _∙_, ap}
 use lib.ListN.{length, getD, set}
 use lib.Seq.{getD-set-same}
@@ -12,49 +13,61 @@ use Rattle.rules.specs.Lists.{occ, sum}
 use Rattle.rules.specs.Heap.{Heap, countOf, setCount}
 use Rattle.rules.specs.Release.{Work, decremented, lower, decref}
 use Rattle.rules.specs.Collect.{lowerAll}
-use Rattle.rules.specs.Refusals.{Call, isFresh, refusal}
+use Rattle.rules.specs.Refusals.{Call, isFresh, refusal, lentFits, refusalLent}
 use Rattle.rules.specs.Refusals.Call.{FRESH}
-use Rattle.rules.specs.Calls.{refuse, byRefusal, step, Did}
+use Rattle.rules.specs.Calls.{refuse, byRefusal, stepLent, Did}
 use Rattle.rules.specs.Counts.{met, actMet, byRefusalMet, stepMet, placed, AboveZero, Shows, CountsAboveZero}
+use Rattle.laws.specs.Lists.Tests.{split}
 use Rattle.laws.specs.Lists.Occ.{occ-nil}
 use Rattle.laws.specs.Sound.But.{SoundBut}
 use Rattle.laws.specs.Sound.Facts.{ready-facts, facts-ready}
-use Rattle.laws.specs.Calls.Admission.{did-as, ready-refused}
+use Rattle.laws.specs.Calls.Admission.{ready-refused}
+use Rattle.laws.specs.Calls.Lent.{lent-fits, lent-misfits}
+use Rattle.laws.specs.Calls.Did.{did-as}
 use Rattle.laws.specs.Calls.Arguments.{by-fresh}
 use Rattle.laws.specs.Calls.Done.{performed}
 use Rattle.laws.specs.Demand.Events.{found-sound, begins-sound}
 
 -- ---- every call
 
-module _ (h : Heap) (s : SoundBut h []) where
+module _ (h : Heap) (s : SoundBut h []) (lent : List ℕ) where
   -- FRESH takes nothing off, done or refused
-  fresh-above : AboveZero FRESH h (step h FRESH .heap) (step h FRESH .answer)
+  fresh-above : AboveZero FRESH h lent (stepLent h lent FRESH .heap) (stepLent h lent FRESH .answer)
   unfolding stepMet
-  fresh-above = record { none = go (refusal h FRESH); all = λ n. absurd (n refl) }
+  fresh-above = record { none = go (refusalLent h lent FRESH); all = λ n. absurd (n refl) }
     where
       go : (n : ℕ) → occ 0 (byRefusalMet h FRESH n) ≡ 0
       go zero = unfold byRefusalMet actMet in occ-nil 0
       go (suc n) = unfold byRefusalMet in occ-nil 0
 
-  eight-above : (call : Call) → isFresh call ≡ false → AboveZero call h (step h call .heap) (step h call .answer)
-  unfolding step stepMet byRefusal byRefusalMet refuse
-  eight-above call f = record { none = go (refusal h call) refl .0; all = λ n. go (refusal h call) refl .1 }
+  -- a call that isn't refused is lent a table that fits
+  done-here : (call : Call) → refusalLent h lent call ≡ 0 → refusal h call ≡ 0
+  done-here call e =
+      ⊎-elim
+      (λ t. sym (lent-fits h lent call t) ∙ e)
+      (λ m. absurd (omega (arith, lent-misfits h lent call m .2)))
+      (split (lentFits h lent call))
+
+  eight-above : (call : Call) → isFresh call ≡ false → AboveZero call h lent (stepLent h lent call .heap) (stepLent h lent call .answer)
+  unfolding stepLent stepMet byRefusal byRefusalMet refuse
+  eight-above call f = record { none = go (refusalLent h lent call) refl .0; all = λ n. go (refusalLent h lent call) refl .1 }
     where
       -- by the number that it is refused with, 0 for done
-      go : (n : ℕ) → refusal h call ≡ n → (occ 0 (byRefusalMet h call n) ≡ 0)
+      go : (n : ℕ) → refusalLent h lent call ≡ n → (occ 0 (byRefusalMet h call n) ≡ 0)
           × (byRefusal h call n .answer .refused ≡ 0
           → sum (byRefusal h call n .heap .count) + length (byRefusalMet h call n) ≡ sum (h .count) + byRefusal h call n .answer .queued + placed h call)
       go zero e =
-          let p = performed h s call f (sym (ready-refused h call (facts-ready s) f) ∙ e) in
+          let p = performed h s call f (sym (ready-refused h call (facts-ready s) f) ∙ done-here call e) in
           let noted = p .outcome .noted in
           (noted .none, λ d. omega (arith, noted .balance, ap (λ (g : Heap). sum (g .count)) (p .heap), p .queued))
       go (suc n) e = (occ-nil 0, λ d. absurd (omega (arith, d)))
 
-  above-zero : (call : Call) → AboveZero call h (step h call .heap) (step h call .answer)
+  above-zero : (call : Call) → AboveZero call h lent (stepLent h lent call .heap) (stepLent h lent call .answer)
   above-zero = by-fresh fresh-above eight-above
 
-did-above : {call : Call} {before after : Heap} {answer : Answer} → Did call before after answer → SoundBut before [] → AboveZero call before after answer
-did-above {call} {before} d s = did-as (AboveZero call before) d (above-zero before s call)
+did-above : {call : Call} {before after : Heap} {lent list : List ℕ} {answer : Answer} → Did call before lent after list answer → SoundBut before []
+    → AboveZero call before lent after answer
+did-above {call} {before} {lent = lent} d s = did-as (λ g l a. AboveZero call before lent g a) d (above-zero before s lent call)
 
 -- ---- a count met at zero
 
@@ -70,7 +83,7 @@ shows w c stands e =
 
 pub counts-above-zero : CountsAboveZero
 counts-above-zero = record {
-  each = λ call before after answer d r. did-above d (ready-facts r);
+  each = λ call before lent after list answer d r. did-above d (ready-facts r);
   always = λ h b l t before e f. let x = found-sound l (begins-sound b) t f in did-above (x .1) (x .0);
   shows = shows;
 }

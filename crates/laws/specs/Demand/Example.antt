@@ -5,15 +5,18 @@ use Prim.Native.Nat.{ℕ}
 use mathlib.Core.List.{List, [], _∷_}
 use mathlib.Core.Path.{refl}
 use lib.ListN.{replicate}
+use Rattle.rules.specs.declared.Answer.{Answer}
 use Rattle.rules.specs.Lists.{every, all, below, occ, distinct, select}
 use Rattle.rules.specs.Heap.{Heap, tables, slotsOf, fresh, setKind, setFlags, setCount, setSlot, setRoot, setRunning, setQueue, enqueue, plain, wipe}
 use Rattle.rules.specs.Check.{fits, cellOk, cellAt, refOk, entryOk, runningOk, refs, countOk, sound}
-use Rattle.rules.specs.Refusals.{Call, number, lowest, lowestFree, newOk, objectOk, conditions, isFresh, refusal}
+use Rattle.rules.specs.Refusals.{Call, number, lowest, lowestFree, newOk, objectOk, conditions, isFresh, refusal, lentFits, refusalLent}
 use Rattle.rules.specs.Refusals.Call.{FRESH, NEW, CLEAR, LOAD, STORE, COLLECT, START, FINISH}
 use Rattle.rules.specs.Release.{start, raise, incref, finalizable, refzero, decremented, lower, decref, decrefs, withPending, retire, serve, drain, release}
 use Rattle.rules.specs.Marking.{mark, markIf, spreadFrom, spread, closure, markFrom}
 use Rattle.rules.specs.Collect.{reachedMarks, unreachedFinalizable, enqueueAll, keptMarks, garbage, lowerAll, unlinkAll, wipeAll, rescued, rescueAll, swept, collect}
-use Rattle.rules.specs.Calls.{refuse, done, finished, allocate, writeRoot, writeSlot, startRun, leaveQueue, finishRun, act, byRefusal, step, answers, Did, Event, Trace, Begins, run}
+use Rattle.rules.specs.Calls.{refuse, done, finished, allocate, writeRoot, writeSlot, startRun, leaveQueue, finishRun, act, byRefusal, step, answers}
+use Rattle.rules.specs.Calls.{stepLent, references, byAnswer, listed, Did, Event, Trace, Begins, room, run}
+use Rattle.rules.specs.FreedLists.{listExamples, ListExamples}
 use Rattle.rules.specs.Counts.{met, decrefsMet, serveMet, drainMet, releaseMet, lowerAllMet, unlinkAllMet, collectMet, writeRootMet, writeSlotMet, finishRunMet}
 use Rattle.rules.specs.Counts.{actMet, byRefusalMet, stepMet, runMet, examples, MetExamples}
 use Rattle.laws.specs.Demand.Events.{run-trace}
@@ -61,42 +64,55 @@ queuedRing = two 1 0 1 2 0 1 0 0 1 1 0
 abbrev runningRing : Heap
 runningRing = two 1 0 1 3 0 1 1 0 1 1 1
 
-abbrev event : Call → Heap → (freed queued cell : ℕ) → Event
-event call after freed queued cell = record { call = call; after = after; answer = answers 0 freed queued cell }
+-- the table for the freed cells is lent empty, and names so many of them afterwards, at most one here
+abbrev event : Call → Heap → (named freed queued cell : ℕ) → Event
+event call after named freed queued cell = record {
+  call = call;
+  lent = replicate 2 0;
+  after = after;
+  list = named ∷ 0 ∷ [];
+  answer = answers 0 freed queued cell;
+}
 
 abbrev pub events : List Event
 events =
-    event (NEW 0 1 0) oneObject 0 0 0
-    ∷ event (NEW 1 1 0) twoObjects 0 0 1
-    ∷ event (STORE 0 0 1) stored 0 0 0
-    ∷ event (CLEAR 1) holding 0 0 0
-    ∷ event (STORE 0 0 1) oneObject 1 0 0
-    ∷ event (CLEAR 0) empty 1 0 0
-    ∷ event (NEW 0 1 1) finalizableObject 0 0 0
-    ∷ event (STORE 0 0 0) holdsItself 0 0 0
-    ∷ event (CLEAR 0) (ring 1) 0 0 0
-    ∷ event COLLECT queuedRing 0 1 0
-    ∷ event (START 0) runningRing 0 0 0
-    ∷ event FINISH (ring 3) 0 0 0
-    ∷ event COLLECT empty 1 0 0
+    event (NEW 0 1 0) oneObject 0 0 0 0
+    ∷ event (NEW 1 1 0) twoObjects 0 0 0 1
+    ∷ event (STORE 0 0 1) stored 0 0 0 0
+    ∷ event (CLEAR 1) holding 0 0 0 0
+    ∷ event (STORE 0 0 1) oneObject 2 1 0 0
+    ∷ event (CLEAR 0) empty 1 1 0 0
+    ∷ event (NEW 0 1 1) finalizableObject 0 0 0 0
+    ∷ event (STORE 0 0 0) holdsItself 0 0 0 0
+    ∷ event (CLEAR 0) (ring 1) 0 0 0 0
+    ∷ event COLLECT queuedRing 0 0 1 0
+    ∷ event (START 0) runningRing 0 0 0 0
+    ∷ event FINISH (ring 3) 0 0 0 0
+    ∷ event COLLECT empty 1 1 0 0
     ∷ []
 
--- FRESH done on the stale tables and then the list; two calls beside it, FRESH on a used cell, and LOAD from a root that is too high; and the counts met
+-- a call that is lent no table
+abbrev pub Alone : Call → Heap → Heap → Answer → Type 0
+Alone call before after answer = Did call before [] after [] answer
+
+-- FRESH done on the stale tables and then the list; two calls beside it, FRESH on a used cell, and LOAD from a root that is too high; the counts met, and the
+-- lists of freed cells
 pub computed :
-    Did FRESH stale empty (answers 0 0 0 0) × Trace empty events × Did FRESH oneObject empty (answers 0 0 0 0) × Did (LOAD 0 64 0) empty empty (answers 3 0 0 0)
-    × MetExamples
+    Alone FRESH stale empty (answers 0 0 0 0) × Trace empty events × Alone FRESH oneObject empty (answers 0 0 0 0)
+    × Did (LOAD 0 64 0) empty (7 ∷ 7 ∷ []) empty (7 ∷ 7 ∷ []) (answers 3 0 0 0) × MetExamples × ListExamples
 unfolding every all below occ distinct select slotsOf fresh setKind setFlags setCount setSlot setRoot setRunning setQueue enqueue plain wipe fits cellOk
     cellAt refOk entryOk runningOk refs countOk sound number lowest lowestFree newOk objectOk conditions isFresh refusal start raise incref finalizable
     refzero decremented lower decref decrefs withPending retire serve drain release mark markIf spreadFrom spread closure markFrom reachedMarks unreachedFinalizable
     enqueueAll keptMarks garbage lowerAll unlinkAll wipeAll rescued rescueAll swept collect refuse done finished allocate writeRoot writeSlot startRun
     leaveQueue finishRun act byRefusal step run met decrefsMet serveMet drainMet releaseMet lowerAllMet unlinkAllMet collectMet writeRootMet writeSlotMet
-    finishRunMet actMet byRefusalMet stepMet runMet examples
+    finishRunMet actMet byRefusalMet stepMet runMet examples lentFits refusalLent stepLent references byAnswer listed room listExamples
 computed = (
-  record { heap = refl; answered = refl },
+  record { heap = refl; freed = refl; answered = refl },
   run-trace empty
       (NEW 0 1 0 ∷ NEW 1 1 0 ∷ STORE 0 0 1 ∷ CLEAR 1 ∷ STORE 0 0 1 ∷ CLEAR 0 ∷ NEW 0 1 1 ∷ STORE 0 0 0 ∷ CLEAR 0 ∷ COLLECT ∷ START 0 ∷ FINISH ∷ COLLECT ∷ []),
-  record { heap = refl; answered = refl },
-  record { heap = refl; answered = refl },
+  record { heap = refl; freed = refl; answered = refl },
+  record { heap = refl; freed = refl; answered = refl },
+  refl,
   refl,
 )
 
@@ -106,11 +122,14 @@ begins = record { stale = stale; answer = answers 0 0 0 0; did = computed .0; do
 pub trace : Trace empty events
 trace = computed .1
 
-pub fresh-clears : Did FRESH oneObject empty (answers 0 0 0 0)
+pub fresh-clears : Alone FRESH oneObject empty (answers 0 0 0 0)
 fresh-clears = computed .2
 
-pub load-refused : Did (LOAD 0 64 0) empty empty (answers 3 0 0 0)
+pub load-refused : Did (LOAD 0 64 0) empty (7 ∷ 7 ∷ []) empty (7 ∷ 7 ∷ []) (answers 3 0 0 0)
 load-refused = computed .3
 
 pub met-examples : MetExamples
 met-examples = computed .4
+
+pub list-examples : ListExamples
+list-examples = computed .5

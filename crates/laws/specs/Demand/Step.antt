@@ -2,9 +2,9 @@
 -- Assumes nothing.
 use Prim.Native.Nat.{ℕ, zero, suc}
 use native.Mathlib.Omega.{arith}
-use mathlib.Core.List.{[], _++_, map, append-nil}
+use mathlib.Core.List.{List, [], _++_, map, append-nil}
 use mathlib.Core.Bool.{true, false, not, _&&_}
-use mathlib.Core.Path.{_≡_, refl, sym, _∙_, ap}
+use mathlib.Core.Path.{_≡_, refl, sym, _∙_, ap, subst⁻¹}
 use mathlib.Core.Logic.{_⊎_, inl, inr, ⊎-elim}
 use lib.ListN.{length, drop}
 use lib.Dec.{eqb}
@@ -14,13 +14,13 @@ use Rattle.rules.specs.Heap.{Heap, cells, kindOf, entries, fresh}
 use Rattle.rules.specs.Sound.{Ready}
 use Rattle.rules.specs.Refusals.{Call, isFresh, refusalSound}
 use Rattle.rules.specs.Refusals.Call.{FRESH, NEW, CLEAR, COPY, LOAD, STORE, COLLECT, START, FINISH}
-use Rattle.rules.specs.Calls.{Result, step, refuse, done}
+use Rattle.rules.specs.Calls.{Result, step, stepLent, listed, refuse, done}
 use Rattle.rules.specs.Asked.{Asked, obey}
 use Rattle.rules.specs.Asked.Asked.{call as asks, LINE}
-use Rattle.rules.specs.Numbers.{freedCells, leaving, TrueNumbers}
+use Rattle.rules.specs.Numbers.{freedCells, leaving, names, TrueNumbers}
 use Rattle.rules.specs.Demand3.{stood}
 use Rattle.laws.specs.Lists.Tests.{none-of, clash, and-left, and-right}
-use Rattle.laws.specs.Lists.Occ.{occ-empty}
+use Rattle.laws.specs.Lists.Occ.{occ-nil, occ-empty, occ-refs, zero-refs}
 use Rattle.laws.specs.Lists.Select.{select-only}
 use Rattle.laws.specs.Lists.Tables.{getD-zeros}
 use Rattle.laws.specs.Sound.But.{SoundBut}
@@ -29,8 +29,10 @@ use Rattle.laws.specs.Reach.Safe.{Kept}
 use Rattle.laws.specs.Calls.Admission.{admission, admission-sound, ready-or-refused, step-refused, step-done, step-fresh, fresh-ready, ready-refused}
 use Rattle.laws.specs.Calls.Arguments.{by-fresh}
 use Rattle.laws.specs.Calls.Asked.{asksFresh}
+use Rattle.laws.specs.Calls.Did.{by-lent, step-freed, names-listed}
 use Rattle.laws.specs.Calls.Outcome.{outcome-freed}
 use Rattle.laws.specs.Calls.Done.{Performed, performed}
+use Rattle.laws.specs.Demand.Sweep.{sweep-ordered}
 
 stood-refused : (h : Heap) (call : Call) (n : ℕ) → stood h call (suc n) ≡ h .slots
 unfolding stood
@@ -57,9 +59,9 @@ leaving-refused (START r) n = refl
 leaving-refused FINISH n = refl
 
 -- every used cell stays in use
-none-freed : (h : Heap) → length (freedCells h h) ≡ 0
+none-freed : (h : Heap) → freedCells h h ≡ []
 unfolding freedCells
-none-freed h = ap length (occ-empty (freedCells h h) (λ c. none-of (occ c (freedCells h h)) (λ b. both c (select-only _ (cells h) c b .1))))
+none-freed h = occ-empty (freedCells h h) (λ c. none-of (occ c (freedCells h h)) (λ b. both c (select-only _ (cells h) c b .1)))
   where
     both : (c : ℕ) → (not (eqb (kindOf h c) 0) && eqb (kindOf h c) 0) ≡ true → ⊥
     both c e = clash (and-right (not (eqb (kindOf h c) 0)) (eqb (kindOf h c) 0) e) (not-true _ (and-left (not (eqb (kindOf h c) 0)) (eqb (kindOf h c) 0) e))
@@ -76,9 +78,19 @@ module _ (h : Heap) (s : SoundBut h []) where
   unfolding refuse
   refused-good call n = record { sound = s; kept = rw (stood-refused h call n) (λ c i u b. refl) }
 
-  refused-numbers : (call : Call) (n : ℕ) → TrueNumbers call h (refuse h (suc n) .heap) (refuse h (suc n) .answer)
+  -- a list of no entries names no cell
+  refused-numbers : (call : Call) (n : ℕ) (list : List ℕ) → TrueNumbers call h (refuse h (suc n) .heap) list (refuse h (suc n) .answer)
   unfolding refuse
-  refused-numbers call n = record { freed = sym (none-freed h); joined = []; queue = rw (leaving-refused call n) (sym (append-nil (entries h))); queued = refl }
+  refused-numbers call n list = record {
+    freed = sym (ap length (none-freed h));
+    went = λ c. (λ o. absurd (omega (arith, occ-nil (suc c))), λ p. absurd (omega (arith, p .0, p .1)));
+    once = λ r. omega (arith, occ-nil r);
+    noneEmpty = occ-nil 0;
+    ordered = λ e. ap (map suc) (sym (none-freed h));
+    joined = [];
+    queue = rw (leaving-refused call n) (sym (append-nil (entries h)));
+    queued = refl;
+  }
 
   performed-good : (call : Call) (r : Result) → Performed h call r → Good h call r
   performed-good call r p = record {
@@ -86,13 +98,28 @@ module _ (h : Heap) (s : SoundBut h []) where
     kept = rw (p .heap, p .refused) (p .outcome .kept);
   }
 
-  performed-numbers : (call : Call) (r : Result) → Performed h call r → TrueNumbers call h (r .heap) (r .answer)
-  performed-numbers call r p = record {
-    freed = p .freed ∙ outcome-freed (p .outcome) ∙ ap (λ (g : Heap). length (freedCells h g)) (sym (p .heap));
-    joined = p .work .queued;
-    queue = ap (λ (g : Heap). entries g) (p .heap) ∙ p .outcome .entered ∙ ap (λ (n : ℕ). drop (leaving call n) (entries h) ++ map suc (p .work .queued)) (sym (p .refused));
-    queued = p .queued;
-  }
+  performed-numbers : (call : Call) (r : Result) (list : List ℕ) → Performed h call r → names list (r .answer) ≡ map suc (r .freed)
+      → (call ≡ COLLECT → r .freed ≡ freedCells h (r .heap)) → TrueNumbers call h (r .heap) list (r .answer)
+  performed-numbers call r list p named ordered =
+      let o = p .outcome in
+      let refs : (c : ℕ) → occ (suc c) (names list (r .answer)) ≡ occ c (p .work .freed) =
+      λ c. ap (occ (suc c)) named ∙ occ-refs c (r .freed) ∙ ap (occ c) (p .list) in
+      let empty : occ 0 (names list (r .answer)) ≡ 0 = ap (occ 0) named ∙ zero-refs (r .freed) in
+      let kind : (c : ℕ) → kindOf (r .heap) c ≡ kindOf (p .work .heap) c = λ c. ap (λ (g : Heap). kindOf g c) (p .heap) in
+      record {
+        freed = p .freed ∙ outcome-freed o ∙ ap (λ (g : Heap). length (freedCells h g)) (sym (p .heap));
+        went = λ c. (
+          λ b. let f = o .freed c (omega (arith, refs c)) in (f .0, kind c ∙ f .1),
+          λ f. omega (arith, refs c, o .all c (f .0) (sym (kind c) ∙ f .1)),
+        );
+        once = elim [ zero ↦ omega (arith, empty) | suc c ↦ omega (arith, refs c, o .once c) ];
+        noneEmpty = empty;
+        ordered = λ e. named ∙ ap (map suc) (ordered e);
+        joined = p .work .queued;
+        queue =
+            ap (λ (g : Heap). entries g) (p .heap) ∙ o .entered ∙ ap (λ (n : ℕ). drop (leaving call n) (entries h) ++ map suc (p .work .queued)) (sym (p .refused));
+        queued = p .queued;
+      }
 
   -- what a step of the eight calls is
   step-cases : (call : Call) → isFresh call ≡ false → ((n : ℕ) × (step h call ≡ refuse h (suc n))) ⊎ Performed h call (step h call)
@@ -115,6 +142,10 @@ module _ (h : Heap) (s : SoundBut h []) where
   pub good-step : (call : Call) → Good h call (step h call)
   good-step = by-fresh fresh-good eight-good
 
+  -- the same of a call that is lent a table: where that doesn't fit, the call is refused
+  pub good-lent : (lent : List ℕ) (call : Call) → Good h call (stepLent h lent call)
+  good-lent lent call = by-lent h lent call (Good h call) (good-step call) (refused-good call 0)
+
 -- Demand 2: "From a sound heap it leaves a sound one."
 pub sound-step : (h : Heap) → Ready h → (call : Call) → Ready (step h call .heap)
 sound-step h r call = facts-ready (good-step h (ready-facts r) call .sound)
@@ -132,8 +163,19 @@ admission-kept h (asks c) f =
     admitted-as : {g : Heap} → Ready g → admission g ≡ 0
     admitted-as {g} r = let t = ready-tests r in admission-sound g (t .0) (t .1)
 
--- The numbers that each of the eight calls answers are true of the tables.
-pub true-numbers : (h : Heap) → Ready h → (call : Call) → isFresh call ≡ false → TrueNumbers call h (step h call .heap) (step h call .answer)
-true-numbers h r call f =
-    let s : SoundBut h [] = ready-facts r in
-    ⊎-elim (λ p. rw (p .1) (refused-numbers h s call (p .0))) (performed-numbers h s call (step h call)) (step-cases h s call f)
+-- The numbers that each of the eight calls answers are true of the tables, and so is its list of freed cells.
+pub true-numbers : (h : Heap) → Ready h → (lent : List ℕ) (call : Call) → isFresh call ≡ false
+    → TrueNumbers call h (stepLent h lent call .heap) (listed lent (stepLent h lent call)) (stepLent h lent call .answer)
+true-numbers h r lent call f =
+    by-lent h lent call (λ x. TrueNumbers call h (x .heap) (listed lent x) (x .answer))
+    (⊎-elim
+    (λ p. subst⁻¹ (λ (x : Result). TrueNumbers call h (x .heap) (listed lent x) (x .answer)) (p .1) (refused-numbers h s call (p .0) _))
+    (λ p. performed-numbers h s call (step h call) (listed lent (step h call)) p (names-listed lent (step h call) (p .refused) (step-freed h call)) ordered)
+    (step-cases h s call f))
+    (refused-numbers h s call 0 _)
+  where
+    s : SoundBut h []
+    s = ready-facts r
+
+    ordered : call ≡ COLLECT → step h call .freed ≡ freedCells h (step h call .heap)
+    ordered e = subst⁻¹ (λ (k : Call). step h k .freed ≡ freedCells h (step h k .heap)) e (sweep-ordered h s)

@@ -30,19 +30,21 @@ use Rattle.laws.specs.Demand.Witness.{nothing-reached, stands-loose}
 
 -- "a number is given exactly where its reason holds", without "the lowest number": root 64 is both too high and empty
 pub any-reason-false :
-    ¬ ((call : Call) (before after : Heap) (answer : Answer) → Did call before after answer → (k : Reason) → (answer .refused ≡ number k) ↔ Why k before call)
+    ¬ ((call : Call) (before : Heap) (lent : List ℕ) (after : Heap) (list : List ℕ) (answer : Answer) → Did call before lent after list answer → (k : Reason)
+    → (answer .refused ≡ number k) ↔ Why k before lent call)
 unfolding number
-any-reason-false claim = omega (arith, claim (LOAD 0 64 0) empty empty _ load-refused EMPTY .1 (loadEmpty refl))
+any-reason-false claim = omega (arith, claim (LOAD 0 64 0) empty _ empty _ _ load-refused EMPTY .1 (loadEmpty refl))
 
 -- ---- demand 2
 
 -- "freed is the cells used before and free after", of FRESH too: it answers 0
 pub fresh-numbers-false :
-    ¬ ((call : Call) (before after : Heap) (answer : Answer) → Did call before after answer → Ready before → TrueNumbers call before after answer)
+    ¬ ((call : Call) (before : Heap) (lent : List ℕ) (after : Heap) (list : List ℕ) (answer : Answer) → Did call before lent after list answer → Ready before
+    → TrueNumbers call before after list answer)
 unfolding freedCells select
 fresh-numbers-false claim =
     let ready : Ready oneObject = demand-2 .always empty begins events trace .ready oneObject (behind first) in
-    omega (arith, claim FRESH oneObject empty _ fresh-clears ready .freed)
+    omega (arith, claim FRESH oneObject _ empty _ _ fresh-clears ready .freed)
 
 -- ---- demand 3
 
@@ -86,4 +88,4 @@ pub record FreesNothing (h : Heap) : Type 0 where
 pub freeing-alone-false : ¬ OfTables (λ g. FreesNothing g ↔ ¬ LooseRing g)
 freeing-alone-false claim =
     let swept = trace .1 .1 .1 .1 .1 .1 .1 .1 .1 .0 in
-    claim empty begins events trace (ring 1) between-ring .0 (record { after = queuedRing; answer = _; sweep = record { did = swept; done = refl }; freed = refl }) (stands-loose 1)
+    claim empty begins events trace (ring 1) between-ring .0 (record { after = queuedRing; answer = _; sweep = record { lent = _; list = _; did = swept; done = refl }; freed = refl }) (stands-loose 1)

@@ -5,17 +5,19 @@ use native.Mathlib.Omega.{arith}
 use native.Mathlib.Decide.{decLt}
 use mathlib.Core.List.{List, [], _∷_, _++_, map, append-nil}
 use mathlib.Core.Path.{_≡_, refl, sym, _∙_, ap, subst⁻¹}
-use mathlib.Core.Logic.{_↔_, by-cases}
+use mathlib.Core.Logic.{_↔_, by-cases, ⊎-elim}
 use lib.ListN.{length, length-append, length-map}
 use Rattle.rules.specs.declared.Answer.{Answer}
 use Rattle.rules.specs.Lists.{occ}
 use Rattle.rules.specs.Heap.{Heap, kindOf, entries, Free}
 use Rattle.rules.specs.Reach.{Exact, LooseRing}
-use Rattle.rules.specs.Refusals.{isFresh, refusalSound, conditions, lowest}
+use Rattle.rules.specs.Refusals.{isFresh, refusalSound, conditions, lowest, lentFits}
 use Rattle.rules.specs.Refusals.Call.{COLLECT}
 use Rattle.rules.specs.Collect.{unreachedFinalizable, garbage, collect}
-use Rattle.rules.specs.Calls.{Result, step, act, finished}
+use Rattle.rules.specs.Calls.{Result, refuse, step, stepLent, listed, room, Did, act, finished}
+use Rattle.rules.specs.Numbers.{freedCells}
 use Rattle.rules.specs.Demand3.{NextSweep, QuietSweep, QuietAnswer}
+use Rattle.laws.specs.Lists.Tests.{split}
 use Rattle.laws.specs.Lists.Occ.{occ-nil, occ-empty}
 use Rattle.laws.specs.Sound.But.{SoundBut}
 use Rattle.laws.specs.Sound.Facts.{facts-ready}
@@ -23,7 +25,9 @@ use Rattle.laws.specs.Reach.Marked.{reached?}
 use Rattle.laws.specs.Reach.Graph.{exact-ring}
 use Rattle.laws.specs.Collect.Left.{collect-left}
 use Rattle.laws.specs.Collect.Swept.{collect-freed, freed-collect, idle-exact, exact-idle}
+use Rattle.laws.specs.Collect.Ordered.{collect-ordered}
 use Rattle.laws.specs.Calls.Admission.{step-done, ready-refused}
+use Rattle.laws.specs.Calls.Did.{lent-step, lent-refused, room-step}
 
 module _ (h : Heap) (s : SoundBut h []) where
   -- a sweep of a sound heap is done
@@ -43,10 +47,34 @@ module _ (h : Heap) (s : SoundBut h []) where
   unfolding finished collect
   swept-queued = ap (λ (r : Result). r .answer .queued) step-collect
 
-  -- the sweep that the rules make next
+  -- its list stands in order of cell number
+  pub sweep-ordered : step h COLLECT .freed ≡ freedCells h (step h COLLECT .heap)
+  unfolding finished
+  sweep-ordered = ap (λ (r : Result). r .freed) step-collect ∙ collect-ordered h s ∙ sym (ap (λ (r : Result). freedCells h (r .heap)) step-collect)
+
+  -- the sweep that the rules make next, lent a table of N entries
   next : NextSweep h (step h COLLECT .heap) (step h COLLECT .answer)
   unfolding finished
-  next = record { did = record { heap = refl; answered = refl }; done = ap (λ (r : Result). r .answer .refused) step-collect }
+  next =
+      let at : stepLent h (room h) COLLECT ≡ step h COLLECT = room-step h COLLECT in
+      record {
+        lent = room h;
+        list = listed (room h) (stepLent h (room h) COLLECT);
+        did = record { heap = sym (ap (λ (r : Result). r .heap) at); freed = refl; answered = sym (ap (λ (r : Result). r .answer) at) };
+        done = ap (λ (r : Result). r .answer .refused) step-collect;
+      }
+
+  -- a sweep done is the one on the heap: the table that it was lent fits
+  pub swept-as : {lent list : List ℕ} {after : Heap} {a : Answer} → Did COLLECT h lent after list a → a .refused ≡ 0
+      → (after ≡ step h COLLECT .heap) × (a ≡ step h COLLECT .answer)
+  unfolding refuse
+  swept-as {lent} d z =
+      ⊎-elim
+      (λ t.
+      let at : stepLent h lent COLLECT ≡ step h COLLECT = lent-step h lent COLLECT t in
+      (d .heap ∙ ap (λ (r : Result). r .heap) at, d .answered ∙ ap (λ (r : Result). r .answer) at))
+      (λ f. absurd (omega (arith, z, ap (λ (x : Answer). x .refused) (d .answered), ap (λ (r : Result). r .answer .refused) (lent-refused h lent COLLECT f))))
+      (split (lentFits h lent COLLECT))
 
   no-entries : (l : List ℕ) → length l ≡ 0 → l ≡ []
   no-entries [] e = refl
@@ -60,7 +88,7 @@ module _ (h : Heap) (s : SoundBut h []) where
     where
       to : QuietSweep h → Exact h
       to q =
-          let at : q .after ≡ collect h .heap = q .sweep .did .heap ∙ swept-heap in
+          let at : q .after ≡ collect h .heap = swept-as (q .sweep .did) (q .sweep .done) .0 ∙ swept-heap in
           let same : entries (collect h .heap) ≡ entries h = sym (ap (λ (g : Heap). entries g) at) ∙ q .queuesNothing in
           exact-idle h s
           (no-entries (unreachedFinalizable h)
@@ -90,7 +118,7 @@ module _ (h : Heap) (s : SoundBut h []) where
     where
       to : QuietAnswer h → Exact h
       to q =
-          let a : q .answer ≡ step h COLLECT .answer = q .sweep .did .answered in
+          let a : q .answer ≡ step h COLLECT .answer = swept-as (q .sweep .did) (q .sweep .done) .1 in
           exact-idle h s
           (no-entries (unreachedFinalizable h) (sym swept-queued ∙ sym (ap (λ (x : Answer). x .queued) a) ∙ q .queued))
           (no-entries (garbage h) (sym swept-freed ∙ sym (ap (λ (x : Answer). x .freed) a) ∙ q .freed))

@@ -97,3 +97,12 @@ select-rest p c (suc n) l = elim (ℕ-discrete c (suc n)) [
       let r = select-rest p c n (omega arith) in
       (r .0 ++ cond (p n) (n ∷ []) [], ap (λ (m : List ℕ). m ++ cond (p n) (n ∷ []) []) (r .1) ∙ append-assoc (select p c) (r .0) (cond (p n) (n ∷ []) []))
 ]
+
+-- two tests that agree below n select the same numbers
+pub select-same : (p q : ℕ → Bool) (n : ℕ) → ((c : ℕ) → c < n → p c ≡ q c) → select p n ≡ select q n
+unfolding select
+select-same p q zero h = refl
+select-same p q (suc n) h =
+    let before : select p n ≡ select q n = select-same p q n (λ c l. h c (omega arith)) in
+    let here : p n ≡ q n = h n (omega arith) in
+    λ i. before i ++ cond (here i) (n ∷ []) []

@@ -97,3 +97,9 @@ unfolding all
 all-at p [] h i m = absurd (omega arith)
 all-at p (x ∷ l) h zero m = and-left (p x) (all p l) h
 all-at p (x ∷ l) h (suc i) m = all-at p l (and-right (p x) (all p l) h) i (omega arith)
+
+-- tests that pass the same are the same
+pub agree : (a b : Bool) → (a ≡ true → b ≡ true) → (b ≡ true → a ≡ true) → a ≡ b
+agree true b f g = sym (f refl)
+agree false true f g = g refl
+agree false false f g = refl

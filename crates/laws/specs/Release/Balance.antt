@@ -1,6 +1,6 @@
 -- What holds in the middle of a take-off, and from one point of it to a later one.
 -- `held` lists the counted references that stand outside the queue: those of the roots and slots, and one whose take-off is due.
--- `serving` is the cell whose slots are coming off, if any; `done` are the cells that this take-off has freed, oldest first.
+-- `serving` is the cell whose slots are coming off, if any; `done` are the cells that the call's take-offs have freed, oldest first.
 -- Assumes nothing.
 use Prim.Native.Nat.{ℕ, suc, _+_, _*_, _≤_, _<_}
 use mathlib.Core.List.{List, [], _++_, map}

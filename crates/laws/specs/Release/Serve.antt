@@ -240,39 +240,48 @@ forget w done held b = record {
   distinct = λ c. omega (arith, occ-nil c, b .distinct c);
 }
 
--- the reference that is to come off is due
-pub release-due : (w : Work) (r : ℕ) (outside : List ℕ) → Draining w [] (r ∷ outside) → Balanced w [] [] (r ∷ (w .heap .slots ++ outside))
-release-due w r outside d =
+pub forget-draining : {w : Work} {done outside : List ℕ} → Draining w done outside → Draining w [] outside
+forget-draining {w} {done} d = record { slots = d .slots; plainSlots = d .plainSlots; balanced = forget w done _ (d .balanced) }
+
+-- the reference that is to come off is due; `done` are the cells that earlier take-offs of the same call have freed
+pub release-due : (w : Work) (r : ℕ) (done outside : List ℕ) → Draining w done (r ∷ outside) → Balanced w [] done (r ∷ (w .heap .slots ++ outside))
+release-due w r done outside d =
     let s : List ℕ = w .heap .slots in
-    reheld w [] [] (s ++ (r ∷ outside)) (r ∷ (s ++ outside))
+    reheld w [] done (s ++ (r ∷ outside)) (r ∷ (s ++ outside))
     (λ c. omega (arith, occ-append (suc c) s (r ∷ outside), occ-cons (suc c) r (s ++ outside), occ-append (suc c) s outside, occ-cons (suc c) r outside))
     (d .balanced)
 
-pub decref-draining : (w : Work) (r : ℕ) (outside : List ℕ) → Draining w [] (r ∷ outside) → Draining (decref w r) [] outside
-decref-draining w r outside d =
+pub decref-draining : (w : Work) (r : ℕ) (done outside : List ℕ) → Draining w done (r ∷ outside) → Draining (decref w r) done outside
+decref-draining w r done outside d =
     let f : Frame w (decref w r) = decref-frame w r in
     record {
       slots = omega (arith, ap length (f .slots), ap length (f .kind));
       plainSlots = rw (f .kind, f .slots) (d .plainSlots);
-      balanced = subst⁻¹ (λ (l : List ℕ). Balanced (decref w r) [] [] (l ++ outside)) (f .slots) (decref-balanced w [] [] r (w .heap .slots ++ outside) (release-due w r outside d));
+      balanced = subst⁻¹ (λ (l : List ℕ). Balanced (decref w r) [] done (l ++ outside)) (f .slots)
+          (decref-balanced w [] done r (w .heap .slots ++ outside) (release-due w r done outside d));
     }
 
-pub release-released : (w : Work) (r : ℕ) (outside : List ℕ) → Settled w (r ∷ outside) → Released w (release w r) outside
+-- a full take-off; the cells that it frees come behind those freed before
+pub release-drained : (w : Work) (r : ℕ) (done outside : List ℕ) → Draining w done (r ∷ outside) → Drained w (release w r) done outside
 unfolding release
-release-released w r outside s =
-    let a : Advanced w (decref w r) [] = decref-advance w [] [] r (w .heap .slots ++ outside) (release-due w r outside (s .draining)) in
-    let q : Drained (decref w r) (release w r) [] outside =
-    drain-drained (length (w .heap .kind)) (decref w r) [] outside (decref-draining w r outside (s .draining)) (omega arith) in
+release-drained w r done outside d =
+    let a : Advanced w (decref w r) [] = decref-advance w [] done r (w .heap .slots ++ outside) (release-due w r done outside d) in
+    let q : Drained (decref w r) (release w r) done outside =
+    drain-drained (length (w .heap .kind)) (decref w r) done outside (decref-draining w r done outside d) (omega (arith, ap length (decref-frame w r .kind))) in
     record {
       cells = q .cells;
       joined = a .0 ++ q .joined;
-      settled = record {
-        draining = record {
-          slots = q .draining .slots;
-          plainSlots = q .draining .plainSlots;
-          balanced = forget (release w r) (q .cells) _ (q .draining .balanced);
-        };
-        empty = q .empty;
-      };
+      draining = q .draining;
+      empty = q .empty;
       advance = advance-trans w (decref w r) (release w r) [] (q .cells) (a .0) (q .joined) (a .1) (q .advance);
+    }
+
+pub release-released : (w : Work) (r : ℕ) (outside : List ℕ) → Settled w (r ∷ outside) → Released w (release w r) outside
+release-released w r outside s =
+    let q : Drained w (release w r) [] outside = release-drained w r [] outside (s .draining) in
+    record {
+      cells = q .cells;
+      joined = q .joined;
+      settled = record { draining = forget-draining (q .draining); empty = q .empty };
+      advance = q .advance;
     }

@@ -20,7 +20,7 @@ use Rattle.release.proofs.decref_slots.Statement.{statement}
 use Rattle.release.proofs.decref_slots.Tie as tie
 
 -- a string or buffer: its slots are empty, and nothing comes off
-spared : (k f n s q t w : List ℕ) (tail c : ℕ) → PlainSlots k s → plain (getD k c 0) ≡ true → tail ≤ 1024
+spared : (k f n s q t w : List ℕ) (tail c : ℕ) → PlainSlots k s → plain (getD k c 0) ≡ true → tail ≤ length w
     → CameOff (decrefs (working k f n [] q t []) (slotsOf s c)) n q t w tail w tail
 spared k f n s q t w tail c empty e bound =
     subst⁻¹ (λ (v : Work). CameOff v n q t w tail w tail) (decrefs-none (working k f n [] q t []) (slotsOf s c) (plain-none k s c empty e))
@@ -42,11 +42,11 @@ module _ (k f n₀ s q₀ t₀ w₀ : List ℕ) (tail c from end : ℕ) (first :
   eight-end n q t w x i g h = rw eight at (go-end k f n₀ s q₀ t₀ w₀ tail from end n q t w x i g h)
 
 abbrev Inv-loop : tie.InvT-loop
-Inv-loop kind flags count₀ slots queue₀ control₀ work₀ tail c t₀ from end count queue control work t i =
-    Going kind flags count₀ slots queue₀ control₀ work₀ tail from end count queue control work t i
+Inv-loop kind flags count₀ slots queue₀ control₀ freed₀ tail c t₀ from end count queue control freed t i =
+    Going kind flags count₀ slots queue₀ control₀ freed₀ tail from end count queue control freed t i
 
 abbrev μ-loop : tie.MeasureT-loop
-μ-loop kind flags count₀ slots queue₀ control₀ work₀ tail c t₀ from end count queue control work t i =
+μ-loop kind flags count₀ slots queue₀ control₀ freed₀ tail c t₀ from end count queue control freed t i =
     end - i
 
 index-requires : tie.Need-index-requires Inv-loop μ-loop
@@ -143,7 +143,7 @@ same-length-3 : tie.Need-same-length-3 Inv-loop μ-loop
 same-length-3 c = c .before .loop .inv .control-kept
 
 same-length-4 : tie.Need-same-length-4 Inv-loop μ-loop
-same-length-4 c = c .before .loop .inv .work-kept
+same-length-4 c = c .before .loop .inv .freed-kept
 
 returns-2 : tie.Need-returns-2 Inv-loop μ-loop
 returns-2 c =

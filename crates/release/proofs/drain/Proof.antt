@@ -2,33 +2,33 @@
 use Prim.Native.Nat.{_-_}
 use native.Mathlib.Omega.{arith}
 use mathlib.Core.Path.{_∙_}
-use Rattle.release.proofs.Serving.{Serving, serve-start, ahead, some-named, in-range, cell-stands, cell-due, serve-on, serve-end}
+use Rattle.release.proofs.Serving.{Serving, serve-start, end-small, some-named, in-range, cell-stands, cell-due, serve-on, serve-end}
 use borrow.Author.Needs.{needs}
 use Rattle.release.proofs.drain.Statement.{statement}
 use Rattle.release.proofs.drain.Tie as tie
 
 abbrev Inv-loop : tie.InvT-loop
-Inv-loop kind₀ flags₀ count₀ slots₀ queue₀ control₀ work₀ tail t₀ head₀ kind flags count slots queue control work t head =
-    Serving kind₀ flags₀ count₀ slots₀ queue₀ control₀ work₀ tail kind flags count slots queue control work t head
+Inv-loop kind₀ flags₀ count₀ slots₀ queue₀ control₀ freed₀ from tail t₀ head₀ kind flags count slots queue control freed t head =
+    Serving kind₀ flags₀ count₀ slots₀ queue₀ control₀ freed₀ from tail kind flags count slots queue control freed t head
 
 abbrev μ-loop : tie.MeasureT-loop
-μ-loop kind₀ flags₀ count₀ slots₀ queue₀ control₀ work₀ tail t₀ head₀ kind flags count slots queue control work t head =
+μ-loop kind₀ flags₀ count₀ slots₀ queue₀ control₀ freed₀ from tail t₀ head₀ kind flags count slots queue control freed t head =
     1024 - head
 
 loop-holds : tie.Need-loop-holds Inv-loop μ-loop
-loop-holds c = serve-start _ _ _ _ _ _ _ _ _ (c .before .before .before .before .before .before .before .pre) (omega arith)
+loop-holds c = serve-start _ _ _ _ _ _ _ _ _ _ (c .before .before .before .before .before .before .before .pre) (omega arith)
 
 mul-of : tie.Need-mul-of Inv-loop μ-loop
-mul-of c = omega (arith, c .before .loop .inv .bound, c .loop-test .taken)
+mul-of c = omega (arith, end-small _ _ _ _ _ _ _ _ _ _ _ _ _ _ _ _ _ _ (c .before .loop .inv), c .loop-test .taken)
 
 slice-read-of : tie.Need-slice-read-of Inv-loop μ-loop
-slice-read-of c = omega (arith, c .before .before .loop .inv .bound, c .before .before .loop .inv .room, c .before .loop-test .taken)
+slice-read-of c = omega (arith, c .before .before .loop .inv .bound, c .before .loop-test .taken)
 
 cast-of : tie.Need-cast-of Inv-loop μ-loop
 cast-of c = omega (arith, c .slice-known8 .given (c .before .before .loop .head))
 
 sub-of : tie.Need-sub-of Inv-loop μ-loop
-sub-of c = omega (arith, some-named _ _ _ _ _ _ _ _ _ _ _ _ _ _ _ _ _ (c .before .before .loop .inv) (c .before .loop-test .taken))
+sub-of c = omega (arith, some-named _ _ _ _ _ _ _ _ _ _ _ _ _ _ _ _ _ _ (c .before .before .loop .inv) (c .before .loop-test .taken))
 
 of-requires : tie.Need-of-requires Inv-loop μ-loop
 of-requires c κs = search needs
@@ -38,9 +38,6 @@ enum-known-cell c = search needs
 
 enum-told : tie.Need-enum-told Inv-loop μ-loop
 enum-told c = search needs
-
-cast-result : tie.Need-cast-result Inv-loop μ-loop
-cast-result c = omega (arith, c .before .before .before .before .before .loop .inv .bound, c .before .before .before .before .loop-test .taken)
 
 same-length : tie.Need-same-length Inv-loop μ-loop
 same-length c = c .before .before .before .before .before .loop .inv .kind-kept
@@ -61,7 +58,7 @@ same-length-6 : tie.Need-same-length-6 Inv-loop μ-loop
 same-length-6 c = c .before .before .before .before .before .loop .inv .control-kept
 
 same-length-7 : tie.Need-same-length-7 Inv-loop μ-loop
-same-length-7 c = c .before .before .before .before .before .loop .inv .work-kept
+same-length-7 c = c .before .before .before .before .before .loop .inv .freed-kept
 
 -- the way of an entry that names no cell is never gone
 returns : tie.Need-returns Inv-loop μ-loop
@@ -69,7 +66,7 @@ returns c =
     let outside = rw (c .enum-told .given .1) at (c .before .before .of .ensures) in
     let loop = c .before .before .before .before .before .loop in
     let loop-test = c .before .before .before .before .loop-test in
-    absurd (omega (arith, outside, in-range _ _ _ _ _ _ _ _ _ _ _ _ _ _ _ _ _ (loop .inv) (loop-test .taken)))
+    absurd (omega (arith, outside, in-range _ _ _ _ _ _ _ _ _ _ _ _ _ _ _ _ _ _ (loop .inv) (loop-test .taken)))
 
 decref-slots-requires : tie.Need-decref-slots-requires Inv-loop μ-loop
 decref-slots-requires c κs =
@@ -78,13 +75,11 @@ decref-slots-requires c κs =
     let loop = c .before .before .before .before .before .before .before .before .before .before .before .before .before .loop in
     let loop-test = c .before .before .before .before .before .before .before .before .before .before .before .before .loop-test in
     let is = rw (cell .given .1) at (of .ensures) in
-    cell-due _ _ _ _ _ _ _ _ _ _ _ _ _ _ _ _ _ (loop .inv) (loop-test .taken) (cell .given .0 .0 .0) (omega (arith, is .0))
+    cell-due _ _ _ _ _ _ _ _ _ _ _ _ _ _ _ _ _ _ (loop .inv) (loop-test .taken) (cell .given .0 .0 .0) (omega (arith, is .0))
 
 free-cell-requires : tie.Need-free-cell-requires Inv-loop μ-loop
 free-cell-requires c κs =
-    let cell =
-    c .before .before .before .before .before .before .before .before .before .before .before .before .before .before .before .before .before .before
-    .before .before .before .cell in
+    let cell = c .before .before .before .before .before .before .before .before .before .before .before .before .before .before .before .before .before .before .before .before .before .cell in
     let of =
     c .before .before .before .before .before .before .before .before .before .before .before .before .before .before .before .before .before .before
     .before .before .before .before .before .of in
@@ -96,27 +91,29 @@ free-cell-requires c κs =
     .before .before .before .before .before .before .before .loop-test in
     let decref-slots = c .before .before .before .before .before .before .before .before .before .before .before .before .decref-slots in
     let is = rw (cell .given .1) at (of .ensures) in
-    cell-stands _ _ _ _ _ _ _ _ _ _ _ _ _ _ _ _ _ (loop .inv) (loop-test .taken) _ (omega (arith, is .0)) _ (decref-slots .kept .1 .1 .0)
+    cell-stands _ _ _ _ _ _ _ _ _ _ _ _ _ _ _ _ _ _ (loop .inv) (loop-test .taken) _ (omega (arith, is .0)) _ (decref-slots .kept .1 .1 .0)
 
 add-head : tie.Need-add-head Inv-loop μ-loop
 add-head c =
     let loop =
     c .before .before .before .before .before .before .before .before .before .before .before .before .before .before .before .before .before .before
-    .before .before .before .before .before .before .before .before .before .before .before .before .before .before .before .before .before .loop in
+    .before .before .before .before .before .before .before .before .before .before .before .before .before .before .before .before .before .loop
+    in
     let loop-test =
     c .before .before .before .before .before .before .before .before .before .before .before .before .before .before .before .before .before .before
     .before .before .before .before .before .before .before .before .before .before .before .before .before .before .before .before .loop-test in
-    omega (arith, loop .inv .bound, loop-test .taken)
+    omega (arith, end-small _ _ _ _ _ _ _ _ _ _ _ _ _ _ _ _ _ _ (loop .inv), loop-test .taken)
 
 loop-less : tie.Need-loop-less Inv-loop μ-loop
 loop-less c =
     let loop =
     c .before .before .before .before .before .before .before .before .before .before .before .before .before .before .before .before .before .before
-    .before .before .before .before .before .before .before .before .before .before .before .before .before .before .before .before .before .loop in
+    .before .before .before .before .before .before .before .before .before .before .before .before .before .before .before .before .before .loop
+    in
     let loop-test =
     c .before .before .before .before .before .before .before .before .before .before .before .before .before .before .before .before .before .before
     .before .before .before .before .before .before .before .before .before .before .before .before .before .before .before .before .loop-test in
-    omega (arith, loop .inv .bound, loop-test .taken)
+    omega (arith, end-small _ _ _ _ _ _ _ _ _ _ _ _ _ _ _ _ _ _ (loop .inv), loop-test .taken)
 
 loop-again : tie.Need-loop-again Inv-loop μ-loop
 loop-again c =
@@ -132,18 +129,16 @@ loop-again c =
     let free-cell = c .before .before .before .before .before .before .before .before .free-cell in
     let loop =
     c .before .before .before .before .before .before .before .before .before .before .before .before .before .before .before .before .before .before
-    .before .before .before .before .before .before .before .before .before .before .before .before .before .before .before .before .before .loop in
+    .before .before .before .before .before .before .before .before .before .before .before .before .before .before .before .before .before .loop
+    in
     let loop-test =
     c .before .before .before .before .before .before .before .before .before .before .before .before .before .before .before .before .before .before
     .before .before .before .before .before .before .before .before .before .before .before .before .before .before .before .before .loop-test in
     let is = rw (cell .given .1) at (of .ensures) in
-    serve-on _ _ _ _ _ _ _ _ _ _ _ _ _ _ _ _ _ (loop .inv) (loop-test .taken) _ (omega (arith, is .0))
+    serve-on _ _ _ _ _ _ _ _ _ _ _ _ _ _ _ _ _ _ (loop .inv) (loop-test .taken) _ (omega (arith, is .0))
     _ _ _ _ _ (decref-slots .ensures) _ _ _ _ (free-cell .ensures) (decref-slots .kept .1 .1 .1 .1 .1 .1 .0)
     (free-cell .kept .0) (free-cell .kept .1 .0) (free-cell .kept .1 .1 .0 ∙ decref-slots .kept .1 .1 .0) (free-cell .kept .1 .1 .1 .0)
     (decref-slots .kept .1 .1 .1 .1 .0) (decref-slots .kept .1 .1 .1 .1 .1 .0)
-
-cast-result-2 : tie.Need-cast-result-2 Inv-loop μ-loop
-cast-result-2 c = omega (arith, ahead _ _ _ _ _ _ _ _ _ _ _ _ _ _ _ _ _ (c .before .loop .inv), c .before .loop .inv .bound)
 
 same-length-8 : tie.Need-same-length-8 Inv-loop μ-loop
 same-length-8 c = c .before .loop .inv .kind-kept
@@ -164,10 +159,10 @@ same-length-13 : tie.Need-same-length-13 Inv-loop μ-loop
 same-length-13 c = c .before .loop .inv .control-kept
 
 same-length-14 : tie.Need-same-length-14 Inv-loop μ-loop
-same-length-14 c = c .before .loop .inv .work-kept
+same-length-14 c = c .before .loop .inv .freed-kept
 
 returns-2 : tie.Need-returns-2 Inv-loop μ-loop
-returns-2 c = serve-end _ _ _ _ _ _ _ _ _ _ _ _ _ _ _ _ _ (c .before .loop .inv) (c .loop-test .left)
+returns-2 c = serve-end _ _ _ _ _ _ _ _ _ _ _ _ _ _ _ _ _ _ (c .before .loop .inv) _ (omega arith) (omega (arith, c .loop-test .left))
 
 pub drain-spec : {M : Type 1} → statement M
 drain-spec =
@@ -183,7 +178,6 @@ drain-spec =
     of-requires
     enum-known-cell
     enum-told
-    cast-result
     same-length
     same-length-2
     same-length-3
@@ -197,7 +191,6 @@ drain-spec =
     add-head
     loop-less
     loop-again
-    cast-result-2
     same-length-8
     same-length-9
     same-length-10

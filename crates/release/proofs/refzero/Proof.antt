@@ -1,7 +1,7 @@
 -- `release::refzero` meets its contract: each way through it is one case of the rules'. Assumes nothing.
 use native.Mathlib.Omega.{arith}
 use mathlib.Core.Logic.{⊎-elim}
-use Rattle.release.proofs.Due.{tail-fits, named-due, range, queue-free, work-free}
+use Rattle.release.proofs.Due.{tail-fits, tail-small, named-due, range, queue-free, work-free}
 use Rattle.release.proofs.Step.{queues, lists, plain-kind, plain-flags}
 use borrow.Author.Needs.{needs}
 use Rattle.release.proofs.refzero.Statement.{statement}
@@ -70,14 +70,14 @@ slice-write-count c = omega (
   c .before .before .pre .due .balanced .fit .count-size,
 )
 
-mul-work : tie.Need-mul-work
-mul-work c = omega (arith, work-free _ _ _ _ _ _ _ _ (named-due _ _ _ _ _ _ _ _ (c .before .before .pre .due) (λ z. omega (arith, c .before .before .pre .some))), c .before .before .pre .due .room)
+mul-freed : tie.Need-mul-freed
+mul-freed c = omega (arith, tail-small _ _ _ _ _ _ _ _ (c .before .before .pre .due))
 
-slice-write-work : tie.Need-slice-write-work
-slice-write-work c = work-free _ _ _ _ _ _ _ _ (named-due _ _ _ _ _ _ _ _ (c .before .before .pre .due) (λ z. omega (arith, c .before .before .pre .some)))
+slice-write-freed : tie.Need-slice-write-freed
+slice-write-freed c = work-free _ _ _ _ _ _ _ _ (named-due _ _ _ _ _ _ _ _ (c .before .before .pre .due) (λ z. omega (arith, c .before .before .pre .some)))
 
 add-result : tie.Need-add-result
-add-result c = omega (arith, work-free _ _ _ _ _ _ _ _ (named-due _ _ _ _ _ _ _ _ (c .before .before .pre .due) (λ z. omega (arith, c .before .before .pre .some))), c .before .before .pre .due .room)
+add-result c = omega (arith, tail-small _ _ _ _ _ _ _ _ (c .before .before .pre .due))
 
 same-length-3 : tie.Need-same-length-3
 same-length-3 c = search needs
@@ -90,7 +90,7 @@ returns-2 c =
     let entry = c .before .before in
     lists _ _ _ _ _ _ _ (tail-fits _ _ _ _ _ _ _ _ (entry .pre .due)) _ (λ z. omega (arith, entry .pre .some)) _ _ (omega arith) (omega arith)
     (⊎-elim (λ w. plain-kind _ _ _ _ _ _ (w .2 .left)) (λ w. plain-flags _ _ _ _ _ _ (w .left)) (c .if1 .came))
-    (work-free _ _ _ _ _ _ _ _ (named-due _ _ _ _ _ _ _ _ (entry .pre .due) (λ z. omega (arith, entry .pre .some)))) (entry .pre .due .room)
+    (work-free _ _ _ _ _ _ _ _ (named-due _ _ _ _ _ _ _ _ (entry .pre .due) (λ z. omega (arith, entry .pre .some))))
 
 pub refzero-spec : {M : Type 1} → statement M
 refzero-spec =
@@ -112,8 +112,8 @@ refzero-spec =
     returns
     mul-count
     slice-write-count
-    mul-work
-    slice-write-work
+    mul-freed
+    slice-write-freed
     add-result
     same-length-3
     same-length-4

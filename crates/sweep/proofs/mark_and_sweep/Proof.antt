@@ -6,31 +6,33 @@ use Rattle.sweep.proofs.mark_and_sweep.Statement.{statement}
 use Rattle.sweep.proofs.mark_and_sweep.Tie as tie
 
 -- where each of the three calls has returned
-abbrev after-rescue-marked : tie.After-slice-known17 → tie.After-rescue-marked
+abbrev after-rescue-marked : tie.After-slice-known19 → tie.After-rescue-marked
 after-rescue-marked c = c .before .before
 
-abbrev after-sweep-unmarked : tie.After-slice-known17 → tie.After-sweep-unmarked
-after-sweep-unmarked c = after-rescue-marked c .before .before .before .before .before .before .before .before .before .before .before
+abbrev after-sweep-unmarked : tie.After-slice-known19 → tie.After-sweep-unmarked
+after-sweep-unmarked c = after-rescue-marked c .before .before .before .before .before .before .before .before .before .before .before .before .before
 
-abbrev after-mark-and-queue : tie.After-slice-known17 → tie.After-mark-and-queue
-after-mark-and-queue c = after-sweep-unmarked c .before .before .before .before .before .before .before .before .before .before .before .before .before .before
+abbrev after-mark-and-queue : tie.After-slice-known19 → tie.After-mark-and-queue
+after-mark-and-queue c = after-sweep-unmarked c .before .before .before .before .before .before .before .before .before .before .before .before .before .before .before
 
 slice-read-waiting : tie.Need-slice-read-waiting
 slice-read-waiting c =
-    let entry = c .before .before .before .before .before .before .before .before .before in
+    let entry = c .before .before .before .before .before .before .before .before .before .before in
     omega (arith, entry .pre .0 .fit .control-size)
 
 mark-and-queue-requires : tie.Need-mark-and-queue-requires
 mark-and-queue-requires c κs =
-    let entry = c .before .before .before .before .before .before .before .before .before .before .before .before .before .before .before .before in
-    entry .pre
+    let entry =
+    c .before .before .before .before .before .before .before .before .before .before .before .before .before .before .before .before .before in
+    (entry .pre .0, entry .pre .1)
 
 sweep-unmarked-requires : tie.Need-sweep-unmarked-requires
 sweep-unmarked-requires c κs =
     let entry =
     c .before .before .before .before .before .before .before .before .before .before .before .before .before .before .before .before .before .before
-    .before .before .before .before .before .before .before .before .before .before .before .before in
-    let mark-and-queue = c .before .before .before .before .before .before .before .before .before .before .before .before .before .mark-and-queue in
+    .before .before .before .before .before .before .before .before .before .before .before .before .before .before in
+    let mark-and-queue =
+    c .before .before .before .before .before .before .before .before .before .before .before .before .before .before .mark-and-queue in
     sweep-asks (mark-and-queue .ensures) (entry .pre .0) (mark-and-queue .kept .1 .1 .0)
 
 rescue-marked-requires : tie.Need-rescue-marked-requires
@@ -38,24 +40,23 @@ rescue-marked-requires c κs =
     let entry =
     c .before .before .before .before .before .before .before .before .before .before .before .before .before .before .before .before .before .before
     .before .before .before .before .before .before .before .before .before .before .before .before .before .before .before .before .before .before
-    .before .before .before .before .before in
+    .before .before .before .before .before .before .before .before .before in
     let mark-and-queue =
     c .before .before .before .before .before .before .before .before .before .before .before .before .before .before .before .before .before .before
-    .before .before .before .before .before .before .mark-and-queue in
-    let sweep-unmarked = c .before .before .before .before .before .before .before .before .before .before .sweep-unmarked in
+    .before .before .before .before .before .before .before .before .before .mark-and-queue in
+    let sweep-unmarked = c .before .before .before .before .before .before .before .before .before .before .before .before .sweep-unmarked in
     let asks = sweep-asks (mark-and-queue .ensures) (entry .pre .0) (mark-and-queue .kept .1 .1 .0) in
     asks .1 .0 .0 ∙ sym (sweep-unmarked .kept .1 .0 ∙ entry .pre .0 .fit .flags-size)
 
 returns : tie.Need-returns
 returns c =
     let entry =
-    after-mark-and-queue c .before .before .before .before .before .before .before .before .before .before .before .before .before .before .before .before
-    .before in
+    after-mark-and-queue c .before .before .before .before .before .before .before .before .before .before .before .before .before .before .before .before .before .before in
     let mark-and-queue = after-mark-and-queue c .mark-and-queue in
     let sweep-unmarked = after-sweep-unmarked c .sweep-unmarked in
     let rescue-marked = after-rescue-marked c .rescue-marked in
     collect-joins (mark-and-queue .ensures) (sweep-unmarked .ensures) (sweep-unmarked .kept .1 .0 ∙ entry .pre .0 .fit .flags-size)
-    (rescue-marked .ensures) (omega arith)
+    (rescue-marked .ensures) (omega arith) (omega arith) (omega arith) (omega arith) (omega arith)
 
 pub mark-and-sweep-spec : {M : Type 1} → statement M
 mark-and-sweep-spec =
@@ -72,4 +73,5 @@ mark-and-sweep-spec =
     (λ c. after-mark-and-queue c .mark-and-queue .kept .1 .1 .1 .1 .1 .0)
     (λ c. after-mark-and-queue c .mark-and-queue .kept .1 .1 .1 .1 .1 .1 .0)
     (λ c. after-mark-and-queue c .mark-and-queue .kept .1 .1 .1 .1 .1 .1 .1 .0)
+    (λ c. after-sweep-unmarked c .sweep-unmarked .kept .1 .1 .1 .1 .1 .0)
     returns)

@@ -6,13 +6,14 @@ use Rattle.sweep.proofs.sweep_unmarked.Tie as tie
 
 unlink-unmarked-requires : tie.Need-unlink-unmarked-requires
 unlink-unmarked-requires c κs =
-    let entry = c .before .before .before .before .before .before .before .before in
+    let entry = c .before .before .before .before .before .before .before .before .before in
     ((entry .pre .1 .0 .0, entry .pre .0 .slots-size), entry .pre .1 .1)
 
 wipe-unmarked-requires : tie.Need-wipe-unmarked-requires
 wipe-unmarked-requires c κs =
-    let entry = c .before .before .before .before .before .before .before .before .before .before .before .before .before .before .before in
-    let unlink-unmarked = c .before .before .before .before .before .before .unlink-unmarked in (
+    let entry =
+    c .before .before .before .before .before .before .before .before .before .before .before .before .before .before .before .before .before in
+    let unlink-unmarked = c .before .before .before .before .before .before .before .unlink-unmarked in (
       record {
         flags-size = entry .pre .0 .flags-size;
         count-size = unlink-unmarked .kept .1 .0 ∙ entry .pre .0 .count-size;
@@ -23,29 +24,36 @@ wipe-unmarked-requires c κs =
 
 same-length : tie.Need-same-length
 same-length c =
-    let wipe-unmarked = c .before .before .before .before .before .before .before .before .wipe-unmarked in
+    let wipe-unmarked = c .before .before .before .before .before .before .before .before .before .before .wipe-unmarked in
     wipe-unmarked .kept .0
 
 same-length-2 : tie.Need-same-length-2
 same-length-2 c =
-    let wipe-unmarked = c .before .before .before .before .before .before .before .before .wipe-unmarked in
+    let wipe-unmarked = c .before .before .before .before .before .before .before .before .before .before .wipe-unmarked in
     wipe-unmarked .kept .1 .0
 
 same-length-3 : tie.Need-same-length-3
 same-length-3 c =
-    let wipe-unmarked = c .before .before .before .before .before .before .before .before .wipe-unmarked in
-    let unlink-unmarked = c .before .before .before .before .before .before .before .before .before .before .before .before .before .before .before .unlink-unmarked in
+    let unlink-unmarked =
+    c .before .before .before .before .before .before .before .before .before .before .before .before .before .before .before .before .before .before .unlink-unmarked in
+    let wipe-unmarked = c .before .before .before .before .before .before .before .before .before .before .wipe-unmarked in
     wipe-unmarked .kept .1 .1 .0 ∙ unlink-unmarked .kept .1 .0
 
 same-length-4 : tie.Need-same-length-4
 same-length-4 c =
-    let wipe-unmarked = c .before .before .before .before .before .before .before .before .wipe-unmarked in
+    let wipe-unmarked = c .before .before .before .before .before .before .before .before .before .before .wipe-unmarked in
     wipe-unmarked .kept .1 .1 .1 .0
+
+same-length-5 : tie.Need-same-length-5
+same-length-5 c =
+    let wipe-unmarked = c .before .before .before .before .before .before .before .before .before .before .wipe-unmarked in
+    wipe-unmarked .kept .1 .1 .1 .1 .1 .0
 
 returns : tie.Need-returns
 returns c =
-    let unlink-unmarked = c .before .before .before .before .before .before .before .before .before .before .before .before .before .before .before .unlink-unmarked in
-    let wipe-unmarked = c .before .before .before .before .before .before .before .before .wipe-unmarked in
+    let unlink-unmarked =
+    c .before .before .before .before .before .before .before .before .before .before .before .before .before .before .before .before .before .before .unlink-unmarked in
+    let wipe-unmarked = c .before .before .before .before .before .before .before .before .before .before .wipe-unmarked in
     rounds-join (unlink-unmarked .ensures) (wipe-unmarked .ensures)
 
 pub sweep-unmarked-spec : {M : Type 1} → statement M
@@ -58,4 +66,5 @@ sweep-unmarked-spec =
     same-length-2
     same-length-3
     same-length-4
+    same-length-5
     returns)

@@ -1,12 +1,13 @@
 -- `allocation::placing::new` meets its contract: each refusal is one law of NEW's, and so is what it does.
 -- Assumes nothing.
 use native.Mathlib.Omega.{arith}
-use mathlib.Core.Path.{refl, _∙_}
+use mathlib.Core.Path.{refl, ap, _∙_}
+use Rattle.rules.specs.declared.Answer.{Answer}
 use Rattle.rules.specs.Refusals.{isFresh}
 use Rattle.laws.specs.Calls.Lowest.{lowest-le}
 use Rattle.laws.specs.Calls.Cases.{new-root, new-number, new-taken, new-full, new-goes}
-use Rattle.laws.specs.Calls.Admission.{inner-refused, inner-done}
-use Rattle.allocation.proofs.Making.{new-does, new-answer}
+use Rattle.laws.specs.Calls.Inner.{inner-refused, inner-done}
+use Rattle.allocation.proofs.Making.{new-does, new-answer, new-lists}
 use borrow.Author.Needs.{needs}
 use Rattle.allocation.proofs.placing.new.Statement.{statement}
 use Rattle.allocation.proofs.placing.new.Tie as tie
@@ -20,7 +21,7 @@ enum-told c = search needs
 returns : tie.Need-returns
 returns c =
     let entry = c .before .before .before .before .before .before .before .before .before .before .before in
-    inner-refused (entry .pre) (unfold isFresh in refl)
+    λ room. inner-refused (entry .pre) (unfold isFresh in refl)
     (new-root _ _ _ _ (rw (c .before .enum-told .given .1) at (c .before .before .before .of .ensures)))
     (λ e. omega arith)
     (c .refuse .ensures)
@@ -34,7 +35,7 @@ enum-told-2 c = search needs
 returns-2 : tie.Need-returns-2
 returns-2 c =
     let entry = c .before .before .before .before .before .before .before .before .before .before .before .before .before .before .before in
-    inner-refused (entry .pre) (unfold isFresh in refl)
+    λ room. inner-refused (entry .pre) (unfold isFresh in refl)
     (new-number _ _ _ _ (rw (c .before .enum-told2 .given .1) at (c .before .before .before .of2 .ensures)))
     (λ e. omega arith)
     (c .refuse2 .ensures)
@@ -64,7 +65,7 @@ returns-3 c =
     c .before .before .before .before .before .before .before .before .before .before .before .before .before .before .before .before .before .before .before in
     let root = rw (to .given .1) at (of .ensures) in
     let wanted = rw (shape .given .1) at (of2 .ensures) in
-    inner-refused (entry .pre) (unfold isFresh in refl)
+    λ room. inner-refused (entry .pre) (unfold isFresh in refl)
     (new-taken _ _ _ _ (root .1) (wanted .2) (rw ((c .before .before .before .index .ensures) ∙ root .0) at (c .before .if1 .taken)))
     (λ e. omega arith)
     (c .refuse3 .ensures)
@@ -96,7 +97,7 @@ returns-4 c =
     let wanted = rw (shape .given .1) at (of2 .ensures) in
     let empty = rw ((index .ensures) ∙ root .0) at (if1 .left) in
     let none = rw (c .before .enum-told3 .given .1) at (c .before .before .before .lowest-free .ensures) in
-    inner-refused (entry .pre) (unfold isFresh in refl)
+    λ room. inner-refused (entry .pre) (unfold isFresh in refl)
     (new-full _ _ _ _ (root .1) (wanted .2) empty (omega (arith, lowest-le (entry .args .kind .now))))
     (λ e. omega arith)
     (c .refuse4 .ensures)
@@ -172,10 +173,12 @@ returns-5 c =
     let wanted = rw (shape .given .1) at (of2 .ensures) in
     let empty = rw ((index .ensures) ∙ root .0) at (if1 .left) in
     let free = rw (cell .given .1) at (lowest-free .ensures) in
-    inner-done (entry .pre) (unfold isFresh in refl)
+    λ room. inner-done (entry .pre) (unfold isFresh in refl)
     (new-goes _ _ _ _ (root .1) (wanted .2) empty (λ e. omega arith))
     (new-does _ _ _ _ (free .0) (root .0) (wanted .0, wanted .1) (place .ensures))
     ((c .made .ensures) ∙ new-answer _ _ _ _ (free .0))
+    (ap (λ (x : Answer). x .refused) (c .made .ensures))
+    (λ fits. new-lists _ _ _ _ room)
 
 pub new-spec : {M : Type 1} → statement M
 new-spec =

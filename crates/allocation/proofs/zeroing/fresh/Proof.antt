@@ -1,8 +1,8 @@
 -- `allocation::zeroing::fresh` meets its contract.
 -- Assumes nothing.
 use mathlib.Core.Path.{_∙_}
-use Rattle.rules.specs.Refusals.Call.{FRESH}
-use Rattle.laws.specs.Calls.Admission.{did-act, tables-eq, refusal-fresh, fresh-is, fresh-answer}
+use Rattle.laws.specs.Calls.Admission.{tables-eq, fresh-is, fresh-answer}
+use Rattle.laws.specs.Calls.Outer.{fresh-done}
 use borrow.Author.Needs.{needs}
 use Rattle.allocation.proofs.zeroing.fresh.Statement.{statement}
 use Rattle.allocation.proofs.zeroing.fresh.Tie as tie
@@ -35,8 +35,7 @@ returns c =
     let zero4 = c .before .before .before .before .before .before .before .before .before .before .before .before .before .before .before .zero4 in
     let zero5 = c .before .before .before .before .before .before .before .before .before .before .before .zero5 in
     let zero6 = c .before .before .before .before .before .before .before .zero6 in
-    did-act _ _ FRESH _
-    (refusal-fresh _ (entry .pre))
+    fresh-done (entry .pre)
     (tables-eq (zero .ensures) (zero2 .ensures) (zero3 .ensures) (zero4 .ensures) (zero5 .ensures) (zero6 .ensures) (c .before .before .before .zero7 .ensures) ∙ fresh-is _ (entry .pre))
     ((c .done .ensures) ∙ fresh-answer _)
 

@@ -2,12 +2,13 @@
 -- Assumes nothing.
 use Prim.Native.Nat.{_≤_}
 use native.Mathlib.Omega.{arith}
-use mathlib.Core.Path.{refl, _∙_}
+use mathlib.Core.Path.{refl, ap, _∙_}
 use lib.ListN.{getD}
+use Rattle.rules.specs.declared.Answer.{Answer}
 use Rattle.rules.specs.Refusals.{isFresh}
 use Rattle.laws.specs.Calls.Cases.{start-number, start-taken, start-busy, start-none, start-goes}
-use Rattle.laws.specs.Calls.Admission.{inner-refused, inner-done}
-use Rattle.finalizers.proofs.Started.{head-raisable, start-does, start-answer}
+use Rattle.laws.specs.Calls.Inner.{inner-refused, inner-done}
+use Rattle.finalizers.proofs.Started.{head-raisable, start-does, start-answer, start-lists}
 use borrow.Author.Needs.{needs}
 use Rattle.finalizers.proofs.starting.start.Statement.{statement}
 use Rattle.finalizers.proofs.starting.start.Tie as tie
@@ -20,7 +21,7 @@ enum-told c = search needs
 
 returns : tie.Need-returns
 returns c =
-    inner-refused
+    λ room. inner-refused
     (c .before .before .before .before .before .before .before .before .before .before .before .pre)
     (unfold isFresh in refl)
     (start-number _ _ (rw (c .before .enum-told .given .1) at (c .before .before .before .of .ensures)))
@@ -44,7 +45,7 @@ returns-2 : tie.Need-returns-2
 returns-2 c =
     let entry = c .before .before .before .before .before .before .before .before .before .before .before .before .before .before .before .before in
     let to = rw (c .before .before .before .before .before .before .to .given .1) at (c .before .before .before .before .before .before .before .before .of .ensures) in
-    inner-refused
+    λ room. inner-refused
     (entry .pre)
     (unfold isFresh in refl)
     (start-taken _ _ (to .1) (rw ((c .before .before .before .before .index .ensures) ∙ to .0) at (c .before .if1 .taken)))
@@ -56,7 +57,7 @@ returns-3 c =
     let entry = c .before .before .before .before .before .before .before .before .before .before .before .before .before .before .before .before .before in
     let to = rw (c .before .before .before .before .before .before .before .to .given .1) at (c .before .before .before .before .before .before .before .before .before .of .ensures) in
     let empty = rw ((c .before .before .before .before .before .index .ensures) ∙ to .0) at (c .before .before .if1 .left) in
-    inner-refused (entry .pre) (unfold isFresh in refl) (start-busy _ _ (to .1) empty (c .before .if2 .taken)) (λ e. omega arith) (c .refuse3 .ensures)
+    λ room. inner-refused (entry .pre) (unfold isFresh in refl) (start-busy _ _ (to .1) empty (c .before .if2 .taken)) (λ e. omega arith) (c .refuse3 .ensures)
 
 slice-read-if3 : tie.Need-slice-read-if3
 slice-read-if3 c =
@@ -73,7 +74,7 @@ returns-4 c =
     rw (c .before .before .before .before .before .before .before .before .before .to .given .1)
     at (c .before .before .before .before .before .before .before .before .before .before .before .of .ensures) in
     let empty = rw ((c .before .before .before .before .before .before .before .index .ensures) ∙ to .0) at (c .before .before .before .before .if1 .left) in
-    inner-refused (entry .pre) (unfold isFresh in refl) (start-none _ _ (to .1) empty (c .before .before .before .if2 .left) (c .before .if3 .taken)) (λ e. omega arith) (c .refuse4 .ensures)
+    λ room. inner-refused (entry .pre) (unfold isFresh in refl) (start-none _ _ (to .1) empty (c .before .before .before .if2 .left) (c .before .if3 .taken)) (λ e. omega arith) (c .refuse4 .ensures)
 
 shared-slice-read-head : tie.Need-shared-slice-read-head
 shared-slice-read-head c =
@@ -132,12 +133,14 @@ returns-5 c =
     let index = c .before .before .before .before .before .before .before .before .before .before .before .before .index in
     let to = rw (c .before .before .before .before .before .before .before .before .before .before .before .before .before .before .to .given .1) at (of .ensures) in
     let empty = rw ((index .ensures) ∙ to .0) at (c .before .before .before .before .before .before .before .before .before .if1 .left) in
-    inner-done
+    λ room. inner-done
     (entry .pre)
     (unfold isFresh in refl)
     (start-goes _ _ (to .1) empty (c .before .before .before .before .before .before .before .before .if2 .left) (c .before .before .before .before .before .before .if3 .left))
     (start-does _ _ ((index .ensures) ∙ to .0) (c .before .before .before .incref .ensures) refl refl)
     ((c .done .ensures) ∙ start-answer _ _)
+    (ap (λ (x : Answer). x .refused) (c .done .ensures))
+    (λ fits. start-lists _ _ room)
 
 pub start-spec : {M : Type 1} → statement M
 start-spec =

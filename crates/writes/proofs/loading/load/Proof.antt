@@ -7,8 +7,8 @@ use Rattle.rules.specs.Refusals.{isFresh}
 use Rattle.laws.specs.Sound.Facts.{ready-facts}
 use Rattle.laws.specs.Reach.Used.{slot-used}
 use Rattle.laws.specs.Calls.Cases.{load-to, load-object, load-slot, load-empty, load-kind}
-use Rattle.laws.specs.Calls.Admission.{inner-refused}
-use Rattle.writes.proofs.Writes.{load-did}
+use Rattle.laws.specs.Calls.Inner.{inner-refused}
+use Rattle.writes.proofs.Writes.{load-ran}
 use Rattle.release.proofs.Written.{writable}
 use Rattle.writes.proofs.Found.{holding-ready, object-refused}
 use borrow.Author.Needs.{needs}
@@ -24,7 +24,7 @@ enum-told c = search needs
 returns : tie.Need-returns
 returns c =
     inner-refused
-    (c .before .before .before .before .before .before .before .before .before .before .before .pre)
+    (c .before .before .before .before .before .before .before .before .before .before .before .before .pre)
     (unfold isFresh in refl)
     (load-to _ _ _ _ (omega (arith, rw (c .before .enum-told .given .1) at (c .before .before .before .of .ensures))))
     (λ e. omega arith)
@@ -38,7 +38,7 @@ enum-told-2 c = search needs
 
 returns-2 : tie.Need-returns-2
 returns-2 c =
-    let entry = c .before .before .before .before .before .before .before .before .before .before .before .before .before .before .before in
+    let entry = c .before .before .before .before .before .before .before .before .before .before .before .before .before .before .before .before in
     inner-refused
     (entry .pre)
     (unfold isFresh in refl)
@@ -54,7 +54,7 @@ enum-told-3 c = search needs
 
 returns-3 : tie.Need-returns-3
 returns-3 c =
-    let entry = c .before .before .before .before .before .before .before .before .before .before .before .before .before .before .before .before .before .before .before in
+    let entry = c .before .before .before .before .before .before .before .before .before .before .before .before .before .before .before .before .before .before .before .before in
     inner-refused
     (entry .pre)
     (unfold isFresh in refl)
@@ -64,7 +64,7 @@ returns-3 c =
 
 object-of-requires : tie.Need-object-of-requires
 object-of-requires c κs =
-    let entry = c .before .before .before .before .before .before .before .before .before .before .before .before .before .before .before .before .before .before .before .before .before in
+    let entry = c .before .before .before .before .before .before .before .before .before .before .before .before .before .before .before .before .before .before .before .before .before .before in
     holding-ready
     (entry .pre)
     (omega (
@@ -87,7 +87,7 @@ mul-r : tie.Need-mul-r
 mul-r c =
     let entry =
     c .before .before .before .before .before .before .before .before .before .before .before .before .before .before .before .before .before .before
-    .before .before .before .before .before .before .before .before in
+    .before .before .before .before .before .before .before .before .before in
     omega (
       arith,
       (rw (c .before .before .cell .given .1) at (c .before .before .before .before .object-of .ensures)),
@@ -100,7 +100,7 @@ add-r : tie.Need-add-r
 add-r c =
     let entry =
     c .before .before .before .before .before .before .before .before .before .before .before .before .before .before .before .before .before .before
-    .before .before .before .before .before .before .before .before .before in
+    .before .before .before .before .before .before .before .before .before .before in
     omega (
       arith,
       (rw (c .before .before .before .cell .given .1) at (c .before .before .before .before .before .object-of .ensures)),
@@ -115,7 +115,7 @@ mul-r-2 : tie.Need-mul-r-2
 mul-r-2 c =
     let entry =
     c .before .before .before .before .before .before .before .before .before .before .before .before .before .before .before .before .before .before
-    .before .before .before .before .before .before .before .before .before in
+    .before .before .before .before .before .before .before .before .before .before in
     omega (
       arith,
       (rw (c .before .before .before .cell .given .1) at (c .before .before .before .before .before .object-of .ensures)),
@@ -130,7 +130,7 @@ slice-read-r : tie.Need-slice-read-r
 slice-read-r c =
     let entry =
     c .before .before .before .before .before .before .before .before .before .before .before .before .before .before .before .before .before .before
-    .before .before .before .before .before .before .before .before .before .before in
+    .before .before .before .before .before .before .before .before .before .before .before in
     let of3 = c .before .before .before .before .before .before .before .before .before .before .before .before .of3 in
     omega (
       arith,
@@ -145,21 +145,25 @@ write-root-requires : tie.Need-write-root-requires
 write-root-requires c κs =
     let entry =
     c .before .before .before .before .before .before .before .before .before .before .before .before .before .before .before .before .before .before
-    .before .before .before .before .before .before .before .before .before .before .before .before .before .before .before .before .before in
+    .before .before .before .before .before .before .before .before .before .before .before .before .before .before .before .before .before .before
+    .before in
     let target =
     c .before .before .before .before .before .before .before .before .before .before .before .before .before .before .before .before .before .before
-    .before .before .before .before .before .before .before .target in
+    .before .before .before .before .before .before .before .before .target in
+    let of =
+    c .before .before .before .before .before .before .before .before .before .before .before .before .before .before .before .before .before .before
+    .before .before .before .before .before .before .before .before .before .before .of in
     let of2 =
     c .before .before .before .before .before .before .before .before .before .before .before .before .before .before .before .before .before .before
-    .before .before .before .before .before .of2 in
-    let holder = c .before .before .before .before .before .before .before .before .before .before .before .before .before .before .before .before .before .before .before .before .before .holder in
+    .before .before .before .before .before .before .of2 in
+    let holder =
+    c .before .before .before .before .before .before .before .before .before .before .before .before .before .before .before .before .before .before
+    .before .before .before .before .holder in
     writable
     (entry .pre)
     (omega (
       arith,
-      (rw (target .given .1)
-          at (c .before .before .before .before .before .before .before .before .before .before .before .before .before .before .before .before .before .before
-          .before .before .before .before .before .before .before .before .before .of .ensures)),
+      (rw (target .given .1) at (of .ensures)),
       (rw (holder .given .1) at (of2 .ensures)),
     ))
     (slot-used _ [] (ready-facts (entry .pre)) _)
@@ -174,7 +178,7 @@ returns-4 c =
     let at-of2 = at-holder .before .before in
     let at-target = at-of2 .before .before in
     let at-of = at-target .before .before in
-    let at-pre = at-of .before .before .before .before .before .before .before .before in
+    let at-pre = at-of .before .before .before .before .before .before .before .before .before in
     let to = (rw (at-target .target .given .1) at (at-of .of .ensures)) in
     let of = (rw (at-holder .holder .given .1) at (at-of2 .of2 .ensures)) in
     let at = (rw (at-at .at .given .1) at (at-of3 .of3 .ensures)) in
@@ -189,8 +193,8 @@ returns-4 c =
 
 returns-5 : tie.Need-returns-5
 returns-5 c =
-    let at-write-root = c .before .before .before .before .before .before .before .before .before .before .before .before .before .before in
-    let at-index2 = at-write-root .before .before .before .before .before .before .before .before .before in
+    let at-write-root = c .before .before .before .before .before .before .before .before .before .before .before .before .before .before .before .before in
+    let at-index2 = at-write-root .before .before .before .before .before .before .before .before .before .before in
     let at-index = at-index2 .before in
     let at-cell = at-index .before .before in
     let at-object-of = at-cell .before .before in
@@ -200,8 +204,8 @@ returns-5 c =
     let at-of2 = at-holder .before .before in
     let at-target = at-of2 .before .before in
     let at-of = at-target .before .before in
-    let at-pre = at-of .before .before .before .before .before .before .before .before in
-    load-did
+    let at-pre = at-of .before .before .before .before .before .before .before .before .before in
+    load-ran
     (at-pre .pre)
     (rw (at-holder .holder .given .1) at (at-of2 .of2 .ensures))
     (rw (at-cell .cell .given .1) at (at-object-of .object-of .ensures))
@@ -209,7 +213,7 @@ returns-5 c =
     (rw (at-at .at .given .1) at (at-of3 .of3 .ensures))
     (at-index .index .ensures)
     (at-index2 .index2 .ensures)
-    (at-write-root .write-root .ensures)
+    (at-write-root .write-root .kept .0) (at-write-root .write-root .ensures)
 
 pub load-spec : {M : Type 1} → statement M
 load-spec =
@@ -244,11 +248,12 @@ load-spec =
     (λ c. refl)
     (λ c. refl)
     returns-4
-    (λ c. c .before .before .before .before .before .before .before .before .before .before .before .before .before .before .write-root .kept .0)
-    (λ c. c .before .before .before .before .before .before .before .before .before .before .before .before .before .before .write-root .kept .1 .0)
-    (λ c. c .before .before .before .before .before .before .before .before .before .before .before .before .before .before .write-root .kept .1 .1 .0)
-    (λ c. c .before .before .before .before .before .before .before .before .before .before .before .before .before .before .write-root .kept .1 .1 .1 .0)
-    (λ c. c .before .before .before .before .before .before .before .before .before .before .before .before .before .before .write-root .kept .1 .1 .1 .1 .0)
-    (λ c. c .before .before .before .before .before .before .before .before .before .before .before .before .before .before .write-root .kept .1 .1 .1 .1 .1 .0)
-    (λ c. c .before .before .before .before .before .before .before .before .before .before .before .before .before .before .write-root .kept .1 .1 .1 .1 .1 .1 .0)
+    (λ c. c .before .before .before .before .before .before .before .before .before .before .before .before .before .before .before .before .write-root .kept .0)
+    (λ c. c .before .before .before .before .before .before .before .before .before .before .before .before .before .before .before .before .write-root .kept .1 .0)
+    (λ c. c .before .before .before .before .before .before .before .before .before .before .before .before .before .before .before .before .write-root .kept .1 .1 .0)
+    (λ c. c .before .before .before .before .before .before .before .before .before .before .before .before .before .before .before .before .write-root .kept .1 .1 .1 .0)
+    (λ c. c .before .before .before .before .before .before .before .before .before .before .before .before .before .before .before .before .write-root .kept .1 .1 .1 .1 .0)
+    (λ c. c .before .before .before .before .before .before .before .before .before .before .before .before .before .before .before .before .write-root .kept .1 .1 .1 .1 .1 .0)
+    (λ c. c .before .before .before .before .before .before .before .before .before .before .before .before .before .before .before .before .write-root .kept .1 .1 .1 .1 .1 .1 .0)
+    (λ c. c .before .before .before .before .before .before .before .before .before .before .before .before .before .before .before .before .write-root .kept .1 .1 .1 .1 .1 .1 .1 .0)
     returns-5)

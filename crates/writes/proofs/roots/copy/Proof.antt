@@ -7,8 +7,8 @@ use Rattle.rules.specs.Refusals.{isFresh}
 use Rattle.laws.specs.Sound.Facts.{ready-facts}
 use Rattle.laws.specs.Reach.Used.{root-used}
 use Rattle.laws.specs.Calls.Cases.{copy-to, copy-from}
-use Rattle.laws.specs.Calls.Admission.{inner-refused}
-use Rattle.writes.proofs.Writes.{copy-did}
+use Rattle.laws.specs.Calls.Inner.{inner-refused}
+use Rattle.writes.proofs.Writes.{copy-ran}
 use Rattle.release.proofs.Written.{writable}
 use borrow.Author.Needs.{needs}
 use Rattle.writes.proofs.roots.copy.Statement.{statement}
@@ -23,7 +23,7 @@ enum-told c = search needs
 returns : tie.Need-returns
 returns c =
     inner-refused
-    (c .before .before .before .before .before .before .before .before .before .before .before .pre)
+    (c .before .before .before .before .before .before .before .before .before .before .before .before .pre)
     (unfold isFresh in refl)
     (copy-to _ _ _ (omega (arith, rw (c .before .enum-told .given .1) at (c .before .before .before .of .ensures))))
     (λ e. omega arith)
@@ -37,7 +37,7 @@ enum-told-2 c = search needs
 
 returns-2 : tie.Need-returns-2
 returns-2 c =
-    let entry = c .before .before .before .before .before .before .before .before .before .before .before .before .before .before .before in
+    let entry = c .before .before .before .before .before .before .before .before .before .before .before .before .before .before .before .before in
     inner-refused
     (entry .pre)
     (unfold isFresh in refl)
@@ -55,7 +55,7 @@ mul-r c = omega (
 
 slice-read-r : tie.Need-slice-read-r
 slice-read-r c =
-    let entry = c .before .before .before .before .before .before .before .before .before .before .before .before .before .before .before .before .before in
+    let entry = c .before .before .before .before .before .before .before .before .before .before .before .before .before .before .before .before .before .before in
     omega (
       arith,
       (rw (c .before .before .before .before .before .before .before .target .given .1) at (c .before .before .before .before .before .before .before .before .before .of .ensures)),
@@ -68,30 +68,30 @@ write-root-requires : tie.Need-write-root-requires
 write-root-requires c κs =
     let entry =
     c .before .before .before .before .before .before .before .before .before .before .before .before .before .before .before .before .before .before
-    .before .before .before .before .before .before in
-    let of = c .before .before .before .before .before .before .before .before .before .before .before .before .before .before .before .before .of in
-    let target = c .before .before .before .before .before .before .before .before .before .before .before .before .before .before .target in
-    let of2 = c .before .before .before .before .before .before .before .before .before .before .before .before .of2 in
+    .before .before .before .before .before .before .before .before in
+    let of = c .before .before .before .before .before .before .before .before .before .before .before .before .before .before .before .before .before .of in
+    let target = c .before .before .before .before .before .before .before .before .before .before .before .before .before .before .before .target in
+    let of2 = c .before .before .before .before .before .before .before .before .before .before .before .before .before .of2 in
     writable
     (entry .pre)
-    (omega (arith, (rw (target .given .1) at (of .ensures)), (rw (c .before .before .before .before .before .before .before .before .before .before .source .given .1) at (of2 .ensures))))
+    (omega (arith, (rw (target .given .1) at (of .ensures)), (rw (c .before .before .before .before .before .before .before .before .before .before .before .source .given .1) at (of2 .ensures))))
     (root-used _ [] (ready-facts (entry .pre)) _)
 
 returns-3 : tie.Need-returns-3
 returns-3 c =
-    let at-write-root = c .before .before .before .before .before .before .before .before .before .before .before .before .before .before in
-    let at-index = at-write-root .before .before .before .before .before .before .before .before .before in
+    let at-write-root = c .before .before .before .before .before .before .before .before .before .before .before .before .before .before .before .before in
+    let at-index = at-write-root .before .before .before .before .before .before .before .before .before .before in
     let at-source = at-index .before .before in
     let at-of2 = at-source .before .before in
     let at-target = at-of2 .before .before in
     let at-of = at-target .before .before in
-    let at-pre = at-of .before .before .before .before .before .before .before .before in
-    copy-did
+    let at-pre = at-of .before .before .before .before .before .before .before .before .before in
+    copy-ran
     (at-pre .pre)
     (rw (at-target .target .given .1) at (at-of .of .ensures))
     (rw (at-source .source .given .1) at (at-of2 .of2 .ensures))
     (at-index .index .ensures)
-    (at-write-root .write-root .ensures)
+    (at-write-root .write-root .kept .0) (at-write-root .write-root .ensures)
 
 pub copy-spec : {M : Type 1} → statement M
 copy-spec =
@@ -111,11 +111,12 @@ copy-spec =
     mul-r
     slice-read-r
     write-root-requires
-    (λ c. c .before .before .before .before .before .before .before .before .before .before .before .before .before .before .write-root .kept .0)
-    (λ c. c .before .before .before .before .before .before .before .before .before .before .before .before .before .before .write-root .kept .1 .0)
-    (λ c. c .before .before .before .before .before .before .before .before .before .before .before .before .before .before .write-root .kept .1 .1 .0)
-    (λ c. c .before .before .before .before .before .before .before .before .before .before .before .before .before .before .write-root .kept .1 .1 .1 .0)
-    (λ c. c .before .before .before .before .before .before .before .before .before .before .before .before .before .before .write-root .kept .1 .1 .1 .1 .0)
-    (λ c. c .before .before .before .before .before .before .before .before .before .before .before .before .before .before .write-root .kept .1 .1 .1 .1 .1 .0)
-    (λ c. c .before .before .before .before .before .before .before .before .before .before .before .before .before .before .write-root .kept .1 .1 .1 .1 .1 .1 .0)
+    (λ c. c .before .before .before .before .before .before .before .before .before .before .before .before .before .before .before .before .write-root .kept .0)
+    (λ c. c .before .before .before .before .before .before .before .before .before .before .before .before .before .before .before .before .write-root .kept .1 .0)
+    (λ c. c .before .before .before .before .before .before .before .before .before .before .before .before .before .before .before .before .write-root .kept .1 .1 .0)
+    (λ c. c .before .before .before .before .before .before .before .before .before .before .before .before .before .before .before .before .write-root .kept .1 .1 .1 .0)
+    (λ c. c .before .before .before .before .before .before .before .before .before .before .before .before .before .before .before .before .write-root .kept .1 .1 .1 .1 .0)
+    (λ c. c .before .before .before .before .before .before .before .before .before .before .before .before .before .before .before .before .write-root .kept .1 .1 .1 .1 .1 .0)
+    (λ c. c .before .before .before .before .before .before .before .before .before .before .before .before .before .before .before .before .write-root .kept .1 .1 .1 .1 .1 .1 .0)
+    (λ c. c .before .before .before .before .before .before .before .before .before .before .before .before .before .before .before .before .write-root .kept .1 .1 .1 .1 .1 .1 .1 .0)
     returns-3)

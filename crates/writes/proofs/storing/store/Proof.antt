@@ -7,8 +7,8 @@ use Rattle.rules.specs.Refusals.{isFresh}
 use Rattle.laws.specs.Sound.Facts.{ready-facts}
 use Rattle.laws.specs.Reach.Used.{root-used}
 use Rattle.laws.specs.Calls.Cases.{store-object, store-slot, store-from, store-empty, store-kind}
-use Rattle.laws.specs.Calls.Admission.{inner-refused}
-use Rattle.writes.proofs.Writes.{store-did}
+use Rattle.laws.specs.Calls.Inner.{inner-refused}
+use Rattle.writes.proofs.Writes.{store-ran}
 use Rattle.release.proofs.Written.{slot-writable}
 use Rattle.writes.proofs.Found.{holding-ready, object-refused}
 use borrow.Author.Needs.{needs}
@@ -24,7 +24,7 @@ enum-told c = search needs
 returns : tie.Need-returns
 returns c =
     inner-refused
-    (c .before .before .before .before .before .before .before .before .before .before .before .pre)
+    (c .before .before .before .before .before .before .before .before .before .before .before .before .pre)
     (unfold isFresh in refl)
     (store-object _ _ _ _ (omega (arith, rw (c .before .enum-told .given .1) at (c .before .before .before .of .ensures))))
     (λ e. omega arith)
@@ -38,7 +38,7 @@ enum-told-2 c = search needs
 
 returns-2 : tie.Need-returns-2
 returns-2 c =
-    let entry = c .before .before .before .before .before .before .before .before .before .before .before .before .before .before .before in
+    let entry = c .before .before .before .before .before .before .before .before .before .before .before .before .before .before .before .before in
     inner-refused
     (entry .pre)
     (unfold isFresh in refl)
@@ -54,7 +54,7 @@ enum-told-3 c = search needs
 
 returns-3 : tie.Need-returns-3
 returns-3 c =
-    let entry = c .before .before .before .before .before .before .before .before .before .before .before .before .before .before .before .before .before .before .before in
+    let entry = c .before .before .before .before .before .before .before .before .before .before .before .before .before .before .before .before .before .before .before .before in
     inner-refused
     (entry .pre)
     (unfold isFresh in refl)
@@ -64,7 +64,7 @@ returns-3 c =
 
 object-of-requires : tie.Need-object-of-requires
 object-of-requires c κs =
-    let entry = c .before .before .before .before .before .before .before .before .before .before .before .before .before .before .before .before .before .before .before .before in
+    let entry = c .before .before .before .before .before .before .before .before .before .before .before .before .before .before .before .before .before .before .before .before .before in
     holding-ready
     (entry .pre)
     (omega (
@@ -97,7 +97,7 @@ shared-slice-read-r : tie.Need-shared-slice-read-r
 shared-slice-read-r c =
     let entry =
     c .before .before .before .before .before .before .before .before .before .before .before .before .before .before .before .before .before .before
-    .before .before .before .before .before .before .before .before in
+    .before .before .before .before .before .before .before .before .before in
     let holder = c .before .before .before .before .before .before .before .before .before .before .before .before .before .before .before .before .holder in
     omega (
       arith,
@@ -112,15 +112,15 @@ write-slot-requires : tie.Need-write-slot-requires
 write-slot-requires c κs =
     let entry =
     c .before .before .before .before .before .before .before .before .before .before .before .before .before .before .before .before .before .before
-    .before .before .before .before .before .before .before .before .before .before .before .before .before .before in
-    let of2 = c .before .before .before .before .before .before .before .before .before .before .before .before .before .before .before .before .before .before .before .before .of2 in
+    .before .before .before .before .before .before .before .before .before .before .before .before .before .before .before .before in
+    let of2 = c .before .before .before .before .before .before .before .before .before .before .before .before .before .before .before .before .before .before .before .before .before .of2 in
     slot-writable
     (entry .pre)
-    ((rw (c .before .before .before .before .before .before .before .before .before .cell .given .1)
-    at (c .before .before .before .before .before .before .before .before .before .before .before .object-of .ensures)) .1)
+    ((rw (c .before .before .before .before .before .before .before .before .before .before .cell .given .1)
+    at (c .before .before .before .before .before .before .before .before .before .before .before .before .object-of .ensures)) .1)
     (omega (
       arith,
-      (rw (c .before .before .before .before .before .before .before .before .before .before .before .before .before .before .before .before .before .before .at .given .1)
+      (rw (c .before .before .before .before .before .before .before .before .before .before .before .before .before .before .before .before .before .before .before .at .given .1)
           at (of2 .ensures)),
     ))
     (root-used _ [] (ready-facts (entry .pre)) _)
@@ -135,7 +135,7 @@ returns-4 c =
     let at-of2 = at-at .before .before in
     let at-holder = at-of2 .before .before in
     let at-of = at-holder .before .before in
-    let at-pre = at-of .before .before .before .before .before .before .before .before in
+    let at-pre = at-of .before .before .before .before .before .before .before .before .before in
     let of = (rw (at-holder .holder .given .1) at (at-of .of .ensures)) in
     let at = (rw (at-at .at .given .1) at (at-of2 .of2 .ensures)) in
     let from = (rw (at-source .source .given .1) at (at-of3 .of3 .ensures)) in
@@ -150,8 +150,8 @@ returns-4 c =
 
 returns-5 : tie.Need-returns-5
 returns-5 c =
-    let at-write-slot = c .before .before .before .before .before .before .before .before .before .before .before .before in
-    let at-index = at-write-slot .before .before .before .before .before .before .before .before in
+    let at-write-slot = c .before .before .before .before .before .before .before .before .before .before .before .before .before .before in
+    let at-index = at-write-slot .before .before .before .before .before .before .before .before .before in
     let at-cell = at-index .before .before in
     let at-object-of = at-cell .before .before in
     let at-source = at-object-of .before .before .before in
@@ -160,15 +160,15 @@ returns-5 c =
     let at-of2 = at-at .before .before in
     let at-holder = at-of2 .before .before in
     let at-of = at-holder .before .before in
-    let at-pre = at-of .before .before .before .before .before .before .before .before in
-    store-did
+    let at-pre = at-of .before .before .before .before .before .before .before .before .before in
+    store-ran
     (at-pre .pre)
     (rw (at-holder .holder .given .1) at (at-of .of .ensures))
     (rw (at-cell .cell .given .1) at (at-object-of .object-of .ensures))
     (rw (at-at .at .given .1) at (at-of2 .of2 .ensures))
     (rw (at-source .source .given .1) at (at-of3 .of3 .ensures))
     (at-index .index .ensures)
-    ((at-write-slot .write-slot .ensures) _)
+    (at-write-slot .write-slot .kept .0) ((at-write-slot .write-slot .ensures) _)
 
 pub store-spec : {M : Type 1} → statement M
 store-spec =
@@ -199,10 +199,11 @@ store-spec =
     write-slot-requires
     (λ c. refl)
     returns-4
-    (λ c. c .before .before .before .before .before .before .before .before .before .before .before .before .write-slot .kept .0)
-    (λ c. c .before .before .before .before .before .before .before .before .before .before .before .before .write-slot .kept .1 .0)
-    (λ c. c .before .before .before .before .before .before .before .before .before .before .before .before .write-slot .kept .1 .1 .0)
-    (λ c. c .before .before .before .before .before .before .before .before .before .before .before .before .write-slot .kept .1 .1 .1 .0)
-    (λ c. c .before .before .before .before .before .before .before .before .before .before .before .before .write-slot .kept .1 .1 .1 .1 .0)
-    (λ c. c .before .before .before .before .before .before .before .before .before .before .before .before .write-slot .kept .1 .1 .1 .1 .1 .0)
+    (λ c. c .before .before .before .before .before .before .before .before .before .before .before .before .before .before .write-slot .kept .0)
+    (λ c. c .before .before .before .before .before .before .before .before .before .before .before .before .before .before .write-slot .kept .1 .0)
+    (λ c. c .before .before .before .before .before .before .before .before .before .before .before .before .before .before .write-slot .kept .1 .1 .0)
+    (λ c. c .before .before .before .before .before .before .before .before .before .before .before .before .before .before .write-slot .kept .1 .1 .1 .0)
+    (λ c. c .before .before .before .before .before .before .before .before .before .before .before .before .before .before .write-slot .kept .1 .1 .1 .1 .0)
+    (λ c. c .before .before .before .before .before .before .before .before .before .before .before .before .before .before .write-slot .kept .1 .1 .1 .1 .1 .0)
+    (λ c. c .before .before .before .before .before .before .before .before .before .before .before .before .before .before .write-slot .kept .1 .1 .1 .1 .1 .1 .0)
     returns-5)

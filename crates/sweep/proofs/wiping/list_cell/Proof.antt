@@ -1,0 +1,49 @@
+-- `sweep::wiping::list_cell` meets its contract. Assumes nothing.
+use native.Mathlib.Omega.{arith}
+use lib.ListN.{length-set}
+use Rattle.sweep.proofs.Wipes.{set-as}
+use Rattle.sweep.proofs.wiping.list_cell.Statement.{statement}
+use Rattle.sweep.proofs.wiping.list_cell.Tie as tie
+
+returns : tie.Need-returns
+returns c =
+    let if1 = c .if1 in
+    λ stands. absurd (omega (arith, stands, (if1 .taken)))
+
+reference-requires : tie.Need-reference-requires
+reference-requires c κs =
+    let entry = c .before .before in
+    omega (arith, (entry .pre))
+
+mul-freed : tie.Need-mul-freed
+mul-freed c =
+    let if1 = c .before .if1 in
+    let good = c .before .before .before .good in
+    omega (arith, (if1 .left), good)
+
+slice-write-freed : tie.Need-slice-write-freed
+slice-write-freed c =
+    let if1 = c .before .if1 in
+    omega (arith, (if1 .left))
+
+same-length : tie.Need-same-length
+same-length c =
+    let entry = c .before .before .before in
+    length-set ((entry .args .freed .now)) _ _
+
+returns-2 : tie.Need-returns-2
+returns-2 c =
+    let entry = c .before .before .before in
+    let reference = c .reference in
+    λ stands. set-as ((entry .args .freed .now)) (omega arith) (omega (arith, (reference .ensures)))
+
+pub list-cell-spec : {M : Type 1} → statement M
+list-cell-spec =
+    tie.close
+    (tie.spec
+    returns
+    reference-requires
+    mul-freed
+    slice-write-freed
+    same-length
+    returns-2)
