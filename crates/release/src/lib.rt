@@ -187,7 +187,7 @@ pub fn release_unlisted(
         count[c] = held - 1;
         return 0;
     }
-    // The room is cleared each time, and a small heap needs little of it.
+    // Two rooms for the compiler's sake: with one, it makes this a part of its callers, and the 2 KiB stand in the frames of calls that never come here.
     if kind.len() <= 64 {
         let mut room = [0u16; 64];
         let end = decref(kind, flags, count, queue, control, &mut room, 0, r);
