@@ -1,13 +1,17 @@
-/* No call takes 4 KiB of stack. Each call runs on a stack of its own that was painted before: the deepest byte that
-   lost its paint says how far the call went. The heap is a chain of 1,024 objects, up or down, so that marking nests as
-   deep as it may and a CLEAR frees them all. */
+/* No call takes 4 KiB of stack, and each kind of call has a limit of its own. Each call runs on a stack of its own that
+   was painted before: the deepest byte that lost its paint says how far the call went. The heap is a chain of 1,024
+   objects, up or down, so that marking nests as deep as it may and a CLEAR frees them all.
+
+   The take-off of a line has room of 2 KiB for its work list, in its own frame. In a caller's frame it would be there in
+   calls that never use it, and in a line of COLLECT: these would pass their limits. */
 #include "../include/vekszalir.h"
 
 #include <stdio.h>
 #include <string.h>
 #include <ucontext.h>
 
-enum { N = 1024, STACK = 65536, LIMIT = 4096, PAINT = 0xA5 };
+enum { N = 1024, STACK = 65536, PAINT = 0xA5 };
+enum { CALL = 2560, SWEEP = 3072, LINE = 3584, AUDIT = 2560 }; /* the most bytes of each kind */
 
 static VEK_STORAGE(N) heap;
 
@@ -26,8 +30,8 @@ static void run_collect(void) { answer = vek_collect(VEK_LEND_ALL(heap)); }
 static void run_start(void) { answer = vek_start(VEK_LEND_ALL(heap), 1); }
 static void run_finish(void) { answer = vek_finish(VEK_LEND_ALL(heap)); }
 
-/* A COLLECT as a line, which vek_take answers at its CR LF and vek_end without it. */
-static const uint8_t line[] = {'6', ',', '0', ',', '0', ',', '0', '\r', '\n'};
+/* A call as a line, which vek_take answers at its CR LF and vek_end without it. */
+static uint8_t line[] = {'6', ',', '0', ',', '0', ',', '0', '\r', '\n'};
 static vek_progress progress;
 static uint8_t out[VEK_ANSWER_LEN + 1]; /* the last one stays 0 */
 
@@ -47,8 +51,8 @@ static void run_audit(void)
 /* What the line's answer says, for `measure` to look at. */
 static void read_answer(void)
 {
-    unsigned refused, freed;
-    if (sscanf((char *)out, "6,%u,%u,", &refused, &freed) == 2)
+    unsigned op, refused, freed;
+    if (sscanf((char *)out, "%u,%u,%u,", &op, &refused, &freed) == 3 && op == line[0] - '0')
         answer.refused = refused, answer.freed = freed;
 }
 
@@ -72,7 +76,7 @@ static size_t depth(void)
     return STACK - untouched;
 }
 
-static void measure(const char *name, void (*run)(void), unsigned freed)
+static void measure(const char *name, void (*run)(void), unsigned freed, size_t limit)
 {
     answer.refused = VEK_SIZE;
     progress.written = 0;
@@ -87,29 +91,34 @@ static void measure(const char *name, void (*run)(void), unsigned freed)
     if (progress.written > 0)
         read_answer();
     printf("stack of %s: %zu bytes\n", name, deep);
-    if (answer.refused != VEK_DONE || answer.freed != freed || deep == 0 || deep >= LIMIT) {
-        printf("stack of %s: refused %u, freed %u, or not under %d bytes\n", name, answer.refused, answer.freed, LIMIT);
+    if (answer.refused != VEK_DONE || answer.freed != freed || deep == 0 || deep > limit) {
+        printf("stack of %s: refused %u, freed %u, or more than %zu bytes\n", name, answer.refused, answer.freed, limit);
         failed = 1;
     }
 }
 
+/* The chain's head waits in the queue, and FINISH frees the whole chain. */
+static void waiting_chain(void) { chain(N, 1), heap.roots[0] = 0, heap.queue[0] = 1, heap.control[0] = 1, heap.flags[0] = 1; }
+
+static void measure_line(const char *name, char op, unsigned freed) { line[0] = op, measure(name, run_take, freed, LINE); }
+
 int main(void)
 {
-    chain(N - 1, 1), measure("new", run_new, 0);
-    chain(N, 1), measure("copy", run_copy, 0);
-    chain(N, 1), measure("load", run_load, 0);
-    chain(N, 1), measure("store", run_store, 0);
-    chain(N, 1), measure("collect, a chain up", run_collect, 0);
-    chain(N, 0), measure("collect, a chain down", run_collect, 0);
+    chain(N - 1, 1), measure("new", run_new, 0, CALL);
+    chain(N, 1), measure("copy", run_copy, 0, CALL);
+    chain(N, 1), measure("load", run_load, 0, CALL);
+    chain(N, 1), measure("store", run_store, 0, CALL);
+    chain(N, 1), measure("collect, a chain up", run_collect, 0, SWEEP);
+    chain(N, 0), measure("collect, a chain down", run_collect, 0, SWEEP);
     chain(N, 1), heap.roots[0] = 0, heap.count[0] = 1, heap.slots[8 * (N - 1)] = 1;
-    measure("collect, a loose ring", run_collect, N);
-    chain(N, 1), measure("clear", run_clear, N);
-    /* the chain's head waits in the queue, and FINISH frees the whole chain */
-    chain(N, 1), heap.roots[0] = 0, heap.queue[0] = 1, heap.control[0] = 1, heap.flags[0] = 1;
-    measure("start", run_start, 0), measure("finish", run_finish, N);
-    chain(N, 1), measure("take, a line of COLLECT", run_take, 0);
-    chain(N, 1), hold(), measure("end, a line of COLLECT", run_end, 0);
-    chain(N, 1), measure("audit", run_audit, 0);
-    measure("fresh", run_fresh, 0);
+    measure("collect, a loose ring", run_collect, N, SWEEP);
+    chain(N, 1), measure("clear", run_clear, N, CALL);
+    waiting_chain(), measure("start", run_start, 0, CALL), measure("finish", run_finish, N, CALL);
+    chain(N, 1), measure_line("take, a line of CLEAR", '2', N);
+    waiting_chain(), run_start(), measure_line("take, a line of FINISH", '8', N);
+    chain(N, 1), measure_line("take, a line of COLLECT", '6', 0);
+    chain(N, 1), hold(), measure("end, a line of COLLECT", run_end, 0, LINE);
+    chain(N, 1), measure("audit", run_audit, 0, AUDIT);
+    measure("fresh", run_fresh, 0, CALL);
     return failed;
 }

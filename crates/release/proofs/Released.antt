@@ -2,9 +2,10 @@
 -- Assumes nothing.
 use mathlib.Core.Path.{_≡_, refl, sym, ap, _∙_, subst, subst⁻¹}
 use mathlib.Core.List.{List, [], _∷_, _++_, map, append-nil}
+use mathlib.Core.Bool.{Bool, true, false}
 use Prim.Native.Nat.{ℕ, suc, _+_, _≤_, _<_}
 use native.Mathlib.Omega.{arith}
-use lib.ListN.{length, take, length-append}
+use lib.ListN.{length, take, replicate, length-append, length-replicate}
 use lib.Seq.{length-take-le}
 use Rattle.rules.specs.Heap.{Heap, tables}
 use Rattle.rules.specs.Release.{Work, start, decref, drain, release}
@@ -16,8 +17,9 @@ use Rattle.laws.specs.Release.Onto.{onto, decref-onto}
 use Rattle.laws.specs.Release.Beside.{beside, drain-beside}
 use Rattle.laws.specs.Release.Serve.{work-list, release-due, decref-draining, Drained, drain-empty, release-drained, forget-draining}
 use Rattle.release.specs.Release.{begun, Releasable, WorkListed, WorkCounted, WorkDone}
-use Rattle.release.specs.Steps.{working, ToComeOff, CameOff, Drainable}
-use Rattle.release.proofs.Listing.{same-cells, listed-length, front-stays}
+use Rattle.release.specs.Steps.{working, Named, SharedOff, ToComeOff, CameOff, Drainable}
+use Rattle.release.proofs.Due.{due-named}
+use Rattle.release.proofs.Listing.{listed-length, front-stays}
 
 module _ (k f n s q t : List ℕ) (from r : ℕ) (d : Releasable k f n s q t from r) where
   -- the tables' lengths
@@ -60,6 +62,19 @@ module _ (k f n s q t : List ℕ) (from r : ℕ) (d : Releasable k f n s q t fro
     balanced = beside-balanced _ _ _ _ [] [] [] [] (release-due _ r (d .done) (d .outside) (d .draining));
   }
 
+  -- the reference is empty or names a cell
+  pub named : Named n r
+  named = due-named (first-due (replicate 1024 0) (omega (arith, fit-of .small, length-replicate {A = ℕ} 1024 0)) from refl)
+
+  -- others share the cell: that is all
+  pub at-once : {n′ : List ℕ} {off : Bool} → SharedOff n r n′ off → off ≡ true → release (begun k f n s q t) r ≡ working k f n′ s q t []
+  unfolding release start
+  at-once {n′} e came = ap (drain (length k)) (e .shared came k f s q t) ∙ drain-empty (length k) (working k f n′ s q t []) refl
+
+  -- it is the last: it is still to come off
+  pub still-due : {n′ : List ℕ} {off : Bool} → SharedOff n r n′ off → off ≡ false → Releasable k f n′ s q t from r
+  still-due e left = subst⁻¹ (λ (m : List ℕ). Releasable k f m s q t from r) (e .kept left) d
+
   module _ (w n′ q′ t′ w′ : List ℕ) (x : ℕ) (e : CameOff (decref (working k f n [] q t []) r) n′ q′ t′ w from w′ x) where
     -- the cells that the first step queued, and those that wait after it
     joined : List ℕ
@@ -85,15 +100,6 @@ module _ (k f n s q t : List ℕ) (from r : ℕ) (d : Releasable k f n s q t fro
     release-is : release (begun k f n s q t) r ≡ beside [] [] joined (drain (length k) (working k f n′ s q′ t′ waiting))
     unfolding release start
     release-is = ap (drain (length k)) first-is ∙ drain-beside [] [] joined (length k) (working k f n′ s q′ t′ waiting)
-
-    -- nothing joined the work list
-    pub at-once : (many : ℕ) → many ≡ 0 → take x w′ ≡ take from w → WorkCounted (release (begun k f n s q t) r) k f n′ s q′ t′ many
-    unfolding waiting beside onto
-    at-once many zero same =
-        let none : waiting ≡ [] = same-cells (take from w) waiting [] (sym (e .listed) ∙ same ∙ sym (append-nil _)) in
-        subst⁻¹ (λ (v : Work). WorkCounted v k f n′ s q′ t′ many)
-        (release-is ∙ ap (beside [] [] joined) (drain-empty (length k) (working k f n′ s q′ t′ waiting) none))
-        (record { heap = refl; freed = zero })
 
     module _ (room : length k ≤ length w) (same : length w′ ≡ length w) where
       -- the entries of the cells that were freed before stay
@@ -139,6 +145,15 @@ module _ (k f n s q t : List ℕ) (from r : ℕ) (d : Releasable k f n s q t fro
             listed = h .listed ∙ ap (λ (l : List ℕ). l ++ map suc (v .freed)) still;
             few = h .few;
           })
+
+-- ---- nothing was freed
+
+module _ {v : Work} {k f n s q t : List ℕ} (is : v ≡ working k f n s q t []) where
+  pub counted-none : {d : ℕ} → d ≡ 0 → WorkCounted v k f n s q t d
+  counted-none {d} none = subst⁻¹ (λ (w : Work). WorkCounted w k f n s q t d) is (record { heap = refl; freed = none })
+
+  pub done-none : {l : List ℕ} → WorkDone v k f n s q t l 0 l 0
+  done-none {l} = subst⁻¹ (λ (w : Work). WorkDone w k f n s q t l 0 l 0) is (record { heap = refl; many = refl; few = omega arith; listed = λ room. refl })
 
 -- ---- with a list or without
 

@@ -3,6 +3,7 @@
 use Prim.Native.Nat.{ℕ, zero, suc, _+_, _*_, _-_, _≤_, _<_}
 use native.Mathlib.Omega.{arith}
 use mathlib.Core.List.{List, []}
+use mathlib.Core.Bool.{Bool, false}
 use mathlib.Core.Path.{_≡_, refl, sym, ap, _∙_, subst, subst⁻¹}
 use lib.ListN.{length, take, getD, set}
 use Rattle.rules.specs.declared.Answer.{Answer}
@@ -13,6 +14,7 @@ use Rattle.laws.specs.Lists.Tables.{inside}
 use Rattle.laws.specs.Sound.But.{SoundBut}
 use Rattle.laws.specs.Calls.Write.{count-bound, write-root-ready, write-slot-ready}
 use Rattle.release.specs.Release.{begun, Raisable, Releasable, WorkDone}
+use Rattle.release.specs.Steps.{SharedOff}
 use Rattle.release.specs.Write.{Writable, SlotWritable, WorkFinished}
 use Rattle.release.proofs.Whole.{releasable, WorkDoneFrom, whole}
 
@@ -62,6 +64,13 @@ module _ (k f n s q t l : List ℕ) (r : ℕ) (p : Releasable k f n s q t 0 r) (
         listed = λ room. ap (λ (i : ℕ). take i l′) (sym all) ∙ g .listed room refl;
         answered = λ i. answers (done i) ((is ∙ all) i) (of-queued i) (none i);
       }
+
+-- the same where the counts are those that were looked at, since the reference is the last to its cell
+pub took-last : (k f s q t : List ℕ) {n n′ k′ f′ n₁ s′ q′ t′ l l′ : List ℕ} {r : ℕ} {off : Bool} {a : Answer} → SharedOff n r n′ off → off ≡ false
+    → ((roots : List ℕ) → WorkFinished (release (start (tables k f n′ s roots q t)) r) k′ f′ n₁ s′ roots q′ t′ l l′ a)
+    → (roots : List ℕ) → WorkFinished (release (start (tables k f n s roots q t)) r) k′ f′ n₁ s′ roots q′ t′ l l′ a
+took-last k f s q t {k′ = k′} {f′} {n₁} {s′} {q′} {t′} {l} {l′} {r} {a = a} e left w roots =
+    subst (λ (m : List ℕ). WorkFinished (release (start (tables k f m s roots q t)) r) k′ f′ n₁ s′ roots q′ t′ l l′ a) (e .kept left) (w roots)
 
 -- ---- a root
 

@@ -3,16 +3,28 @@
 -- Assumes nothing: these are definitions.
 use Prim.Native.Nat.{ℕ, suc, _+_, _*_, _-_, _≤_, _<_}
 use mathlib.Core.List.{List, [], _∷_, _++_, map}
+use mathlib.Core.Bool.{Bool, true, false}
 use mathlib.Core.Path.{_≡_}
 use lib.ListN.{length, take, getD}
 use Rattle.rules.specs.Heap.{tables, slotsOf}
-use Rattle.rules.specs.Release.{Work}
+use Rattle.rules.specs.Release.{Work, decref}
 use Rattle.laws.specs.Sound.But.{PlainSlots}
 use Rattle.laws.specs.Release.Balance.{Balanced, Draining}
 
 -- the tables with a work list, and nothing freed or queued yet
 abbrev pub working : (kind flags count slots queue control pending : List ℕ) → Work
 working kind flags count slots queue control pending = record { heap = tables kind flags count slots [] queue control; pending = pending; freed = []; queued = [] }
+
+-- r is empty, or names a cell of the table
+pub record Named (count : List ℕ) (r : ℕ) : Type 0 where
+  pub range : (c : ℕ) → r ≡ suc c → c < length count
+
+-- Either r came off, and the rules' step leaves these counts and nothing else; or r is the last reference to its cell, and nothing came off.
+pub record SharedOff (n : List ℕ) (r : ℕ) (n′ : List ℕ) (off : Bool) : Type 0 where
+  pub shared : off ≡ true → (k f s q t : List ℕ) → decref (working k f n s q t []) r ≡ working k f n′ s q t []
+  pub kept : off ≡ false → n′ ≡ n
+  pub some : off ≡ false → 1 ≤ r
+  pub last : off ≡ false → getD n (r - 1) 0 ≤ 1
 
 -- The references `due` are to come off. Of the work list's cells `done` are freed, `serving` is being served and `pending` wait.
 pub record ToComeOff (kind flags count queue control freed : List ℕ) (tail : ℕ) (due : List ℕ) : Type 0 where

@@ -1,6 +1,7 @@
 // Reference counting: a count rises, a reference comes off with all that follows from it, and the writes that do both.
 // A take-off keeps a work list of the cells whose count fell to zero. Each of them is freed, in the order in which they joined: the lent table
 // `freed`, which says which cells went, is that list, as references. Behind the list's end it may hold anything.
+use answers::done;
 use answers::finished;
 use freeing::free_cell;
 use freeing::is_plain;
@@ -17,7 +18,7 @@ ghost use Rattle.rules.specs.Heap.{tables, slotsOf};
 ghost use Rattle.rules.specs.Release.{start, raise, finalizable, refzero, decref, decrefs, drain, release};
 ghost use Rattle.rules.specs.Calls.{writeRoot, writeSlot};
 ghost use Rattle.release.specs.Release.{begun, Raisable, Releasable, WorkListed, WorkCounted};
-ghost use Rattle.release.specs.Steps.{working, ToComeOff, SlotsToComeOff, LastToComeOff, CameOff, Drainable};
+ghost use Rattle.release.specs.Steps.{working, Named, SharedOff, ToComeOff, SlotsToComeOff, LastToComeOff, CameOff, Drainable};
 ghost use Rattle.release.specs.Write.{Writable, SlotWritable, WorkFinished};
 
 // The last reference to a cell comes off. An object with a finalizer to run joins the queue, whose entry is a reference,
@@ -51,6 +52,23 @@ fn refzero(
     tail + 1
 }
 
+// A reference to a cell that others name too comes off; an empty one takes nothing off. False if it is the last one: then nothing has changed.
+fn decref_shared(count: &mut [u16], r: u16) -> bool
+    requires { ⌜ Named (now count) r ⌝ }
+    ensures { λ off. ⌜ SharedOff (now (count .entry)) r (now (count .exit)) off ⌝ }
+{
+    if r == 0 {
+        return true;
+    }
+    let c = r as usize - 1;
+    let n = count[c];
+    if 1 < n {
+        count[c] = n - 1;
+        return true;
+    }
+    false
+}
+
 // One reference comes off what it names, if anything. Returns the work list's new end.
 fn decref(
     kind: &[u16],
@@ -66,16 +84,9 @@ fn decref(
     ensures { λ t. ⌜ CameOff (decref (working (now (kind .entry)) (now (flags .entry)) (now (count .entry)) [] (now (queue .entry)) (now (control .entry)) []) r)
         (now (count .exit)) (now (queue .exit)) (now (control .exit)) (now (freed .entry)) tail (now (freed .exit)) t ⌝ }
 {
-    if r == 0 {
+    if decref_shared(count, r) {
         return tail;
     }
-    let c = r as usize - 1;
-    let n = count[c];
-    if 1 < n {
-        count[c] = n - 1;
-        return tail;
-    }
-    // The reference is counted, so that n is 1.
     refzero(kind, flags, count, queue, control, freed, tail, r)
 }
 
@@ -163,7 +174,8 @@ pub fn release(
     drain(kind, flags, count, slots, queue, control, freed, from, tail)
 }
 
-// The same for a caller that asks for no list: it is made in room of its own. Returns the number of cells freed.
+// The same for a caller that asks for no list: it is made in room of its own. Returns the number of cells freed. The room stands in this function's frame
+// alone, so that no call pays for it that doesn't come here (tests/stack.c).
 pub fn release_unlisted(
     kind: &mut [u16],
     flags: &mut [u16],
@@ -177,24 +189,17 @@ pub fn release_unlisted(
     ensures { λ d. ⌜ WorkCounted (release (begun (now (kind .entry)) (now (flags .entry)) (now (count .entry)) (now (slots .entry)) (now (queue .entry)) (now (control .entry))) r)
         (now (kind .exit)) (now (flags .exit)) (now (count .exit)) (now (slots .exit)) (now (queue .exit)) (now (control .exit)) d ⌝ }
 {
-    if r == 0 {
+    if decref_shared(count, r) {
         return 0;
     }
-    // Most references are not the last: they come off before the room is made.
-    let c = r as usize - 1;
-    let held = count[c];
-    if 1 < held {
-        count[c] = held - 1;
-        return 0;
-    }
-    // Two rooms for the compiler's sake: with one, it makes this a part of its callers, and the 2 KiB stand in the frames of calls that never come here.
+    // Two rooms for the compiler's sake: a function with one it makes a part of its callers.
     if kind.len() <= 64 {
         let mut room = [0u16; 64];
-        let end = decref(kind, flags, count, queue, control, &mut room, 0, r);
+        let end = refzero(kind, flags, count, queue, control, &mut room, 0, r);
         return drain(kind, flags, count, slots, queue, control, &mut room, 0, end);
     }
     let mut room = [0u16; 1024];
-    let end = decref(kind, flags, count, queue, control, &mut room, 0, r);
+    let end = refzero(kind, flags, count, queue, control, &mut room, 0, r);
     drain(kind, flags, count, slots, queue, control, &mut room, 0, end)
 }
 
@@ -226,6 +231,10 @@ fn take_off(
     ensures { λ a. ⌜ ((roots : List ℕ) → WorkFinished (release (start (tables (now (kind .entry)) (now (flags .entry)) (now (count .entry)) (now (slots .entry)) roots (now (queue .entry)) (now (control .entry)))) r)
         (now (kind .exit)) (now (flags .exit)) (now (count .exit)) (now (slots .exit)) roots (now (queue .exit)) (now (control .exit)) (now (freed .entry)) (now (freed .exit)) a) ⌝ }
 {
+    // Most references are not the last: they come off before anything else is asked.
+    if decref_shared(count, r) {
+        return done();
+    }
     let before = control[0];
     if freed.len() < kind.len() {
         let many = release_unlisted(kind, flags, count, slots, queue, control, r);

@@ -7,7 +7,7 @@ use mathlib.Core.Bool.{not, _&&_}
 use mathlib.Core.Logic.{_↔_}
 use mathlib.Core.Path.{_≡_}
 use lib.Dec.{eqb}
-use lib.ListN.{length, take, drop}
+use lib.ListN.{length, getD, take, drop}
 use Rattle.rules.specs.declared.Answer.{Answer}
 use Rattle.rules.specs.Lists.{occ, select}
 use Rattle.rules.specs.Heap.{Heap, cells, kindOf, entries, Used, Free}
@@ -43,6 +43,8 @@ pub record TrueNumbers (call : Call) (before after : Heap) (list : List ℕ) (an
   pub noneEmpty : occ 0 (names list answer) ≡ 0
   -- "COLLECT's in cell order", in which `freedCells` has them
   pub ordered : call ≡ COLLECT → names list answer ≡ map suc (freedCells before after)
+  -- "and the rest are 0"
+  pub rest : answer .refused ≡ 0 → (i : ℕ) → answer .freed ≤ i → getD list i 0 ≡ 0
   -- the cells put in the queue are those behind what was left of it
   pub joined : List ℕ
   pub queue : entries after ≡ drop (leaving call (answer .refused)) (entries before) ++ map suc joined

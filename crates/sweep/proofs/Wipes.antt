@@ -3,7 +3,7 @@
 use Prim.Native.Nat.{ℕ, suc, _+_, _*_, _≤_, _<_}
 use native.Mathlib.Omega.{arith}
 use mathlib.Core.List.{List, [], _∷_, _++_, map, map-append, append-nil, append-assoc}
-use mathlib.Core.Bool.{Bool, true, false, not, _&&_}
+use mathlib.Core.Bool.{Bool, true, false, not, _&&_, true≢false}
 use mathlib.Core.Path.{_≡_, refl, sym, ap, subst, _∙_}
 use lib.Dec.{eqb}
 use lib.ListN.{length, getD, take, set, length-append}
@@ -16,11 +16,22 @@ use Rattle.laws.specs.Lists.Pigeonhole.{pigeonhole}
 use Rattle.laws.specs.Collect.Wiping.{Wiped, wiped}
 use Rattle.laws.specs.Collect.Append.{wipe-append}
 use Rattle.freeing.specs.Freeing.{CellFreed}
-use Rattle.sweep.specs.Phases.{isGarbage, garbageOf, only, Same, Freed}
+use Rattle.sweep.specs.Phases.{isGarbage, garbageOf, only, Same, Lists, Freed}
 
 -- one entry of a table
 pub set-as : (l : List ℕ) {i e x y : ℕ} → i ≡ e → x ≡ y → set l i x ≡ set l e y
 set-as l at is = λ j. set l (at j) (is j)
+
+-- a table with room for every cell, and one with less
+pub lists-all : {k l : List ℕ} → length k ≤ length l → Lists true k l
+lists-all fits = record { room = λ is. fits; asked = λ room. refl }
+
+pub lists-none : {k l : List ℕ} → length l < length k → Lists false k l
+lists-none less = record { room = λ is. absurd (true≢false (sym is)); asked = λ room. absurd (omega arith) }
+
+-- tables of the same lengths
+pub lists-on : {listed : Bool} {k k′ l l′ : List ℕ} → length k′ ≡ length k → length l′ ≡ length l → Lists listed k l → Lists listed k′ l′
+lists-on cells size a = record { room = λ is. omega (arith, a .room is); asked = λ fits. a .asked (omega arith) }
 
 module _ {k f n s : List ℕ} where
   -- the list's end r is as it was
@@ -32,14 +43,14 @@ module _ {k f n s : List ℕ} where
     listed = λ room. rw fails (ap (λ (i : ℕ). take i l) same ∙ sym (append-nil (take e l)));
   }
 
-  -- the cell's reference is written at the list's end i, if that is in the table
+  -- the cell's reference is written at the list's end i, if the table has room for every cell
   pub freed-one : {k′ f′ n′ s′ : List ℕ} (c : ℕ) {b : Bool} {l l′ : List ℕ} {e i r : ℕ} → b ≡ true → CellFreed k f n s c k′ f′ n′ s′
-      → (i < length l → l′ ≡ set l i (c + 1)) → i ≡ e → e ≤ c → c < length k → r ≡ e + 1 → Freed k f n s (only b c) k′ f′ n′ s′ l e l′ r
+      → (length k ≤ length l → l′ ≡ set l i (c + 1)) → i ≡ e → e ≤ c → c < length k → r ≡ e + 1 → Freed k f n s (only b c) k′ f′ n′ s′ l e l′ r
   unfolding wipeAll
   freed-one c {b} {l} {e = e} passes z written at few inside next = record {
     heap = λ t q w. rw passes (z .heap t q w);
     many = rw passes (omega arith);
-    listed = λ room. rw passes ((λ j. take (next j) (written (omega arith) j)) ∙ (λ j. take (e + 1) (set l (at j) (c + 1))) ∙ listed-one (omega arith));
+    listed = λ room. rw passes ((λ j. take (next j) (written room j)) ∙ (λ j. take (e + 1) (set l (at j) (c + 1))) ∙ listed-one (omega arith));
   }
     where
       listed-one : e < length l → take (e + 1) (set l e (c + 1)) ≡ take e l ++ (suc c ∷ [])

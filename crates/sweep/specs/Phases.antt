@@ -2,7 +2,7 @@
 -- Assumes nothing: these are definitions.
 use Prim.Native.Nat.{ℕ, suc, _+_, _*_, _≤_, _<_}
 use mathlib.Core.List.{List, [], _∷_, _++_, map}
-use mathlib.Core.Bool.{Bool, not, _&&_, cond}
+use mathlib.Core.Bool.{Bool, true, not, _&&_, cond}
 use mathlib.Core.Path.{_≡_}
 use lib.Dec.{eqb}
 use lib.ListN.{length, getD, take}
@@ -67,6 +67,11 @@ pub record Same (kind flags count slots : List ℕ) : Type 0 where
   pub flags-size : length flags ≡ length kind
   pub count-size : length count ≡ length kind
   pub slots-size : length slots ≡ 8 * length kind
+
+-- `listed` says whether the table for the freed cells has room for every cell
+pub record Lists (listed : Bool) (kind freed : List ℕ) : Type 0 where
+  pub room : listed ≡ true → length kind ≤ length freed
+  pub asked : length kind ≤ length freed → listed ≡ true
 
 -- The cells l were freed, and their references, in order, joined the list: it ended at `from` in `before`, and ends at r in `after`. That is said of a table
 -- that has room for every cell, and nothing of another.

@@ -4,16 +4,28 @@ use freeing::free_cell;
 use numbers::cell::Cell;
 use numbers::cell::CellNumber;
 ghost use Prim.Native.Nat.{_+_, _≤_, _<_};
+ghost use mathlib.Core.Bool.{true};
 ghost use mathlib.Core.Path.{_≡_};
 ghost use lib.ListN.{length, set};
-ghost use Rattle.sweep.specs.Phases.{isGarbage, garbageOf, only, Same, Freed};
+ghost use Rattle.sweep.specs.Phases.{isGarbage, garbageOf, only, Same, Lists, Freed};
 
-// The reference of a cell joins the list, which ends at `end`. A table without room for it is left as it is: whoever asks for no list lends none.
-fn list_cell(freed: &mut [u16], end: usize, cell: Cell)
-    requires { ⌜ cell .0 < 1024 ⌝ }
-    ensures { λ _. ⌜ (end < length (now (freed .entry)) → now (freed .exit) ≡ set (now (freed .entry)) end (cell .0 + 1)) ⌝ }
+// Whether the cells are listed: whoever asks for no list lends a table without room for every cell.
+fn has_room(kind: &[u16], freed: &[u16]) -> bool
+    ensures { λ r. ⌜ Lists r (now (kind .entry)) (now (freed .entry)) ⌝ }
 {
-    if freed.len() <= end {
+    if freed.len() < kind.len() {
+        return false;
+    }
+    true
+}
+
+// The reference of a cell joins the list, which ends at `end`, if cells are listed.
+fn list_cell(freed: &mut [u16], listed: bool, end: usize, cell: Cell)
+    requires { ⌜ cell .0 < 1024 ⌝ }
+    requires { ⌜ (listed ≡ true → end < length (now freed)) ⌝ }
+    ensures { λ _. ⌜ (listed ≡ true → now (freed .exit) ≡ set (now (freed .entry)) end (cell .0 + 1)) ⌝ }
+{
+    if !listed {
         return;
     }
     freed[end] = cell.reference();
@@ -27,19 +39,21 @@ fn wipe_cell(
     slots: &mut [u16],
     marks: &[u8],
     freed: &mut [u16],
+    listed: bool,
     end: usize,
     cell: Cell,
 ) -> usize
     requires { ⌜ Same (now kind) (now flags) (now count) (now slots) ⌝ }
     requires { ⌜ (cell .0 < length (now kind)) × (length (now marks) ≡ length (now kind)) ⌝ }
     requires { ⌜ (end ≤ cell .0) × (length (now kind) ≤ 1024) ⌝ }
+    requires { ⌜ Lists listed (now kind) (now freed) ⌝ }
     ensures { λ r. ⌜ Freed (now (kind .entry)) (now (flags .entry)) (now (count .entry)) (now (slots .entry)) (only (isGarbage (now (kind .entry)) (now (marks .entry)) (cell .0)) (cell .0))
         (now (kind .exit)) (now (flags .exit)) (now (count .exit)) (now (slots .exit)) (now (freed .entry)) end (now (freed .exit)) r ⌝ }
 {
     if !is_garbage(kind, marks, cell) {
         return end;
     }
-    list_cell(freed, end, cell);
+    list_cell(freed, listed, end, cell);
     free_cell(kind, flags, count, slots, cell);
     end + 1
 }
@@ -58,12 +72,14 @@ pub fn wipe_unmarked(
     ensures { λ r. ⌜ Freed (now (kind .entry)) (now (flags .entry)) (now (count .entry)) (now (slots .entry)) (garbageOf (now (kind .entry)) (now (marks .entry)))
         (now (kind .exit)) (now (flags .exit)) (now (count .exit)) (now (slots .exit)) (now (freed .entry)) 0 (now (freed .exit)) r ⌝ }
 {
+    // asked once, since it is the same for every cell
+    let listed = has_room(kind, freed);
     let mut end = 0;
     for c in 0..kind.len() {
         let CellNumber::Is(cell) = Cell::of(c, kind.len()) else {
             return end as u16;
         };
-        end = wipe_cell(kind, flags, count, slots, marks, freed, end, cell);
+        end = wipe_cell(kind, flags, count, slots, marks, freed, listed, end, cell);
     }
     end as u16
 }

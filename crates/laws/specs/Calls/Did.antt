@@ -1,12 +1,13 @@
 -- A call that is lent a table for the cells that it frees: it is the call on the heap, or refused SIZE for the table's length; and the list that it leaves.
 -- Assumes nothing.
-use Prim.Native.Nat.{ℕ, zero, suc}
-use mathlib.Core.List.{List, map}
+use Prim.Native.Nat.{ℕ, zero, suc, _+_, _-_, _≤_}
+use native.Mathlib.Omega.{arith}
+use mathlib.Core.List.{List, _++_, map}
 use mathlib.Core.Bool.{true, false}
 use mathlib.Core.Logic.{_≢_, _⊎_, inl, inr, ⊎-elim}
 use mathlib.Core.Path.{_≡_, refl, sym, ap, _∙_, subst⁻¹}
-use lib.ListN.{length, take, length-map, length-replicate}
-use lib.Seq.{take-at}
+use lib.ListN.{length, getD, take, replicate, length-map, length-replicate}
+use lib.Seq.{take-at, getD-append-add}
 use Rattle.rules.specs.declared.Answer.{Answer}
 use Rattle.rules.specs.Heap.{Heap, cells}
 use Rattle.rules.specs.Sound.{Ready}
@@ -15,6 +16,7 @@ use Rattle.rules.specs.Refusals.Call.{FRESH, NEW, CLEAR, COPY, LOAD, STORE, COL
 use Rattle.rules.specs.Calls.{Result, refuse, done, finished, act, byRefusal, step, stepLent, references, byAnswer, listed, Did, room}
 use Rattle.rules.specs.Numbers.{names}
 use Rattle.laws.specs.Lists.Tests.{split}
+use Rattle.laws.specs.Lists.Tables.{getD-zeros}
 use Rattle.laws.specs.Calls.Admission.{ready-or-refused}
 use Rattle.laws.specs.Calls.Lent.{lent-fits, lent-misfits, fits-lent}
 
@@ -94,3 +96,14 @@ pub names-listed : (lent : List ℕ) (r : Result) → r .answer .refused ≡ 0 �
 unfolding references
 names-listed lent r e many =
     ap (take (r .answer .freed)) (listed-done lent r e) ∙ take-at (map suc (r .freed)) _ (r .answer .freed) (length-map (r .freed) suc ∙ sym many)
+
+-- and those behind them are 0
+pub rest-listed : (lent : List ℕ) (r : Result) → r .answer .refused ≡ 0 → r .answer .freed ≡ length (r .freed)
+    → (i : ℕ) → r .answer .freed ≤ i → getD (listed lent r) i 0 ≡ 0
+unfolding references
+rest-listed lent r e many i behind =
+    let front : List ℕ = map suc (r .freed) in
+    let zeros : List ℕ = replicate (length lent - length (r .freed)) 0 in
+    let at : i ≡ length front + (i - length front) = omega (arith, length-map (r .freed) suc) in
+    ap (λ (l : List ℕ). getD l i 0) (listed-done lent r e) ∙ ap (λ (j : ℕ). getD (front ++ zeros) j 0) at
+    ∙ getD-append-add front zeros (i - length front) 0 ∙ getD-zeros (length lent - length (r .freed)) (i - length front)

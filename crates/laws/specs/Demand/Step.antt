@@ -1,12 +1,12 @@
 -- Every call, done or refused, on a sound heap: it leaves a sound one (demand 2), its numbers are true, and the slots of the cells in use are as they stood.
 -- Assumes nothing.
-use Prim.Native.Nat.{ℕ, zero, suc}
+use Prim.Native.Nat.{ℕ, zero, suc, _≤_}
 use native.Mathlib.Omega.{arith}
 use mathlib.Core.List.{List, [], _++_, map, append-nil}
 use mathlib.Core.Bool.{true, false, not, _&&_}
 use mathlib.Core.Path.{_≡_, refl, sym, _∙_, ap, subst⁻¹}
 use mathlib.Core.Logic.{_⊎_, inl, inr, ⊎-elim}
-use lib.ListN.{length, drop}
+use lib.ListN.{length, getD, drop}
 use lib.Dec.{eqb}
 use borrow.Author.Tests.{not-true}
 use Rattle.rules.specs.Lists.{occ}
@@ -29,7 +29,7 @@ use Rattle.laws.specs.Reach.Safe.{Kept}
 use Rattle.laws.specs.Calls.Admission.{admission, admission-sound, ready-or-refused, step-refused, step-done, step-fresh, fresh-ready, ready-refused}
 use Rattle.laws.specs.Calls.Arguments.{by-fresh}
 use Rattle.laws.specs.Calls.Asked.{asksFresh}
-use Rattle.laws.specs.Calls.Did.{by-lent, step-freed, names-listed}
+use Rattle.laws.specs.Calls.Did.{by-lent, step-freed, names-listed, rest-listed}
 use Rattle.laws.specs.Calls.Outcome.{outcome-freed}
 use Rattle.laws.specs.Calls.Done.{Performed, performed}
 use Rattle.laws.specs.Demand.Sweep.{sweep-ordered}
@@ -87,6 +87,7 @@ module _ (h : Heap) (s : SoundBut h []) where
     once = λ r. omega (arith, occ-nil r);
     noneEmpty = occ-nil 0;
     ordered = λ e. ap (map suc) (sym (none-freed h));
+    rest = λ e. absurd (omega arith);
     joined = [];
     queue = rw (leaving-refused call n) (sym (append-nil (entries h)));
     queued = refl;
@@ -99,8 +100,9 @@ module _ (h : Heap) (s : SoundBut h []) where
   }
 
   performed-numbers : (call : Call) (r : Result) (list : List ℕ) → Performed h call r → names list (r .answer) ≡ map suc (r .freed)
-      → (call ≡ COLLECT → r .freed ≡ freedCells h (r .heap)) → TrueNumbers call h (r .heap) list (r .answer)
-  performed-numbers call r list p named ordered =
+      → ((i : ℕ) → r .answer .freed ≤ i → getD list i 0 ≡ 0) → (call ≡ COLLECT → r .freed ≡ freedCells h (r .heap))
+      → TrueNumbers call h (r .heap) list (r .answer)
+  performed-numbers call r list p named rest ordered =
       let o = p .outcome in
       let refs : (c : ℕ) → occ (suc c) (names list (r .answer)) ≡ occ c (p .work .freed) =
       λ c. ap (occ (suc c)) named ∙ occ-refs c (r .freed) ∙ ap (occ c) (p .list) in
@@ -115,6 +117,7 @@ module _ (h : Heap) (s : SoundBut h []) where
         once = elim [ zero ↦ omega (arith, empty) | suc c ↦ omega (arith, refs c, o .once c) ];
         noneEmpty = empty;
         ordered = λ e. named ∙ ap (map suc) (ordered e);
+        rest = λ e. rest;
         joined = p .work .queued;
         queue =
             ap (λ (g : Heap). entries g) (p .heap) ∙ o .entered ∙ ap (λ (n : ℕ). drop (leaving call n) (entries h) ++ map suc (p .work .queued)) (sym (p .refused));
@@ -170,7 +173,8 @@ true-numbers h r lent call f =
     by-lent h lent call (λ x. TrueNumbers call h (x .heap) (listed lent x) (x .answer))
     (⊎-elim
     (λ p. subst⁻¹ (λ (x : Result). TrueNumbers call h (x .heap) (listed lent x) (x .answer)) (p .1) (refused-numbers h s call (p .0) _))
-    (λ p. performed-numbers h s call (step h call) (listed lent (step h call)) p (names-listed lent (step h call) (p .refused) (step-freed h call)) ordered)
+    (λ p. performed-numbers h s call (step h call) (listed lent (step h call)) p (names-listed lent (step h call) (p .refused) (step-freed h call))
+    (rest-listed lent (step h call) (p .refused) (step-freed h call)) ordered)
     (step-cases h s call f))
     (refused-numbers h s call 0 _)
   where

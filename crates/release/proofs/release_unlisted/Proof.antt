@@ -1,188 +1,201 @@
--- `release::release_unlisted` meets its contract: a count above 1 falls at once, and otherwise the list is made in room of its own. Assumes nothing.
-use Prim.Native.Nat.{ℕ}
+-- `release::release_unlisted` meets its contract: a shared reference comes off at once, and otherwise the list is made in room of its own. Assumes nothing.
+use Prim.Native.Nat.{ℕ, _≤_}
 use native.Mathlib.Omega.{arith}
-use mathlib.Core.List.{[]}
 use mathlib.Core.Path.{refl, _∙_}
-use lib.ListN.{replicate, length-replicate}
-use Rattle.release.proofs.Due.{named-due, range}
-use Rattle.release.proofs.Step.{came-off-none, many-as}
-use Rattle.release.proofs.Released.{fit-of, first-due, at-once, drainable, then-drain, counted}
+use lib.ListN.{length, replicate, length-replicate}
+use Rattle.release.proofs.Due.{last-due, came-off-last}
+use Rattle.release.proofs.Released.{fit-of, named, at-once, first-due, drainable, then-drain, counted, counted-none}
 use borrow.Author.Needs.{needs}
 use Rattle.release.proofs.release_unlisted.Statement.{statement}
 use Rattle.release.proofs.release_unlisted.Tie as tie
 
+-- where each call has returned
+abbrev after-drain : tie.After-room4 → tie.After-drain
+after-drain c = c .before .before .before .before .before .before .before .before .before .before .before .before .before
+
+abbrev after-refzero : tie.After-room4 → tie.After-refzero
+after-refzero c =
+    c .before .before .before .before .before .before .before .before .before .before .before .before .before .before .before .before .before .before
+    .before .before .before .before .before .before .before .before .before .before
+
+abbrev after-decref-shared : tie.After-room4 → tie.After-decref-shared
+after-decref-shared c =
+    c .before .before .before .before .before .before .before .before .before .before .before .before .before .before .before .before .before .before
+    .before .before .before .before .before .before .before .before .before .before .before .before .before .before .before .before .before .before
+    .before .before .before
+
+abbrev after-drain2 : tie.After-room8 → tie.After-drain2
+after-drain2 c = c .before .before .before .before .before .before .before .before .before .before .before .before .before
+
+abbrev after-refzero2 : tie.After-room8 → tie.After-refzero2
+after-refzero2 c =
+    c .before .before .before .before .before .before .before .before .before .before .before .before .before .before .before .before .before .before
+    .before .before .before .before .before .before .before .before .before .before
+
+abbrev after-decref-shared2 : tie.After-room8 → tie.After-decref-shared
+after-decref-shared2 c =
+    c .before .before .before .before .before .before .before .before .before .before .before .before .before .before .before .before .before .before
+    .before .before .before .before .before .before .before .before .before .before .before .before .before .before .before .before .before .before
+    .before .before .before
+
+decref-shared-requires : tie.Need-decref-shared-requires
+decref-shared-requires c κs =
+    let entry = c .before .before .before .before .before .before .before in
+    named _ _ _ _ _ _ _ _ (entry .pre)
+
+same-length : tie.Need-same-length
+same-length c =
+    let decref-shared = c .before .before .before .decref-shared in
+    decref-shared .kept .0
+
 returns : tie.Need-returns
 returns c =
-    let entry = c .before .before .before .before .before .before .before in
+    let entry = c .before .before .before .before .before .before .before .before .before .before .before in
+    let decref-shared = c .before .before .before .decref-shared in
     let if1 = c .if1 in
-    at-once _ _ _ _ _ _ _ _ (entry .pre) [] _ _ _ [] 0 (came-off-none _ _ _ _ _ [] 0 (omega arith) _ (if1 .taken)) _ (omega arith) refl
+    counted-none (at-once _ _ _ _ _ _ _ _ (entry .pre) (decref-shared .ensures) (if1 .taken)) (omega arith)
 
-slice-read-held : tie.Need-slice-read-held
-slice-read-held c =
-    let entry = c .before .before .before .before .before .before .before .before in
-    let if1 = c .before .if1 in
-    let fit = fit-of _ _ _ _ _ _ _ _ (entry .pre) in
-    let big = first-due _ _ _ _ _ _ _ _ (entry .pre) (replicate 1024 0) (omega (arith, fit .small, length-replicate {A = ℕ} 1024 0)) 0 refl in
-    omega (arith, range _ _ _ _ _ _ _ _ (named-due _ _ _ _ _ _ _ _ big (if1 .left)), fit .count-size)
-
-slice-write-count : tie.Need-slice-write-count
-slice-write-count c =
-    let entry = c .before .before .before .before .before .before .before .before .before in
-    let if1 = c .before .before .if1 in
-    let fit = fit-of _ _ _ _ _ _ _ _ (entry .pre) in
-    let big = first-due _ _ _ _ _ _ _ _ (entry .pre) (replicate 1024 0) (omega (arith, fit .small, length-replicate {A = ℕ} 1024 0)) 0 refl in
-    omega (arith, range _ _ _ _ _ _ _ _ (named-due _ _ _ _ _ _ _ _ big (if1 .left)), fit .count-size)
-
-returns-2 : tie.Need-returns-2
-returns-2 c =
-    let entry = c .before .before .before .before .before .before .before .before .before in
-    let if1 = c .before .before .if1 in
-    let if2 = c .if2 in
-    at-once _ _ _ _ _ _ _ _ (entry .pre) [] _ _ _ [] 0 (many-as _ _ _ _ _ [] 0 (omega arith) _ (if1 .left) (omega arith) (omega (arith, if2 .taken))) _ (omega arith) refl
-
-decref-requires : tie.Need-decref-requires
-decref-requires c κs =
-    let entry = c .before .before .before .before .before .before .before .before .before .before .before .before .before .before .before .before in
-    let if3 = c .before .before .before .before .before .before .if3 in
-    first-due _ _ _ _ _ _ _ _ (entry .pre) _ (omega (arith, (if3 .taken), length-replicate {A = ℕ} 64 0)) _ (omega arith)
+refzero-requires : tie.Need-refzero-requires
+refzero-requires c κs =
+    let entry =
+    c .before .before .before .before .before .before .before .before .before .before .before .before .before .before .before .before .before .before
+    in
+    let decref-shared = c .before .before .before .before .before .before .before .before .before .before .decref-shared in
+    let if1 = c .before .before .before .before .before .before .before .if1 in
+    let if2 = c .before .before .before .before .before .before .if2 in
+    let room : length (entry .args .kind .now) ≤ length (replicate {A = ℕ} 64 0) =
+    omega (arith, if2 .taken, length-replicate {A = ℕ} 64 0) in
+    last-due (first-due _ _ _ _ _ _ _ _ (entry .pre) _ room _ (omega arith)) (decref-shared .ensures) (if1 .left)
 
 drain-requires : tie.Need-drain-requires
 drain-requires c κs =
     let entry =
     c .before .before .before .before .before .before .before .before .before .before .before .before .before .before .before .before .before .before
-    .before .before .before .before .before .before .before .before .before .before .before .before .before in
-    let decref = c .before .before .before .before .before .before .before .before .before .before .before .before .before .before .decref in
-    let if3 =
+    .before .before .before .before .before .before .before .before .before .before .before .before .before .before .before in
+    let decref-shared =
     c .before .before .before .before .before .before .before .before .before .before .before .before .before .before .before .before .before .before
-    .before .before .before .if3 in
-    drainable _ _ _ _ _ _ _ _ (entry .pre) _ _ _ _ _ _ (decref .ensures) (omega (arith, (if3 .taken), length-replicate {A = ℕ} 64 0))
-    (decref .kept .1 .1 .1 .1 .1 .0) _ _ (omega arith) (omega arith)
+    .before .before .before .before .before .before .before .decref-shared in
+    let if1 =
+    c .before .before .before .before .before .before .before .before .before .before .before .before .before .before .before .before .before .before
+    .before .before .before .before .if1 in
+    let if2 =
+    c .before .before .before .before .before .before .before .before .before .before .before .before .before .before .before .before .before .before
+    .before .before .before .if2 in
+    let refzero = c .before .before .before .before .before .before .before .before .before .before .before .before .before .before .refzero in
+    let room : length (entry .args .kind .now) ≤ length (replicate {A = ℕ} 64 0) =
+    omega (arith, if2 .taken, length-replicate {A = ℕ} 64 0) in
+    let came = came-off-last (first-due _ _ _ _ _ _ _ _ (entry .pre) (replicate 64 0) room 0 refl) (decref-shared .ensures) (if1 .left) (refzero .ensures) in
+    let same = refzero .kept .1 .1 .1 .1 .1 .0 in
+    drainable _ _ _ _ _ _ _ _ (entry .pre) _ _ _ _ _ _ came room same _ _ (omega arith) (omega arith)
 
-same-length-4 : tie.Need-same-length-4
-same-length-4 c =
-    let drain = c .before .before .before .before .before .before .before .before .before .before .before .before .before .drain in
-    let decref =
-    c .before .before .before .before .before .before .before .before .before .before .before .before .before .before .before .before .before .before
-    .before .before .before .before .before .before .before .before .before .before .decref in
-    (drain .kept .1 .1 .0) ∙ (decref .kept .1 .1 .0)
-
-same-length-6 : tie.Need-same-length-6
-same-length-6 c =
-    let drain = c .before .before .before .before .before .before .before .before .before .before .before .before .before .drain in
-    let decref =
-    c .before .before .before .before .before .before .before .before .before .before .before .before .before .before .before .before .before .before
-    .before .before .before .before .before .before .before .before .before .before .decref in
-    (drain .kept .1 .1 .1 .1 .0) ∙ (decref .kept .1 .1 .1 .0)
-
-same-length-7 : tie.Need-same-length-7
-same-length-7 c =
-    let drain = c .before .before .before .before .before .before .before .before .before .before .before .before .before .drain in
-    let decref =
-    c .before .before .before .before .before .before .before .before .before .before .before .before .before .before .before .before .before .before
-    .before .before .before .before .before .before .before .before .before .before .decref in
-    (drain .kept .1 .1 .1 .1 .1 .0) ∙ (decref .kept .1 .1 .1 .1 .0)
-
-returns-3 : tie.Need-returns-3
-returns-3 c =
-    let drain = c .before .before .before .before .before .before .before .before .before .before .before .before .before .drain in
-    let decref =
-    c .before .before .before .before .before .before .before .before .before .before .before .before .before .before .before .before .before .before
-    .before .before .before .before .before .before .before .before .before .before .decref in
-    let if3 =
-    c .before .before .before .before .before .before .before .before .before .before .before .before .before .before .before .before .before .before
-    .before .before .before .before .before .before .before .before .before .before .before .before .before .before .before .before .before .if3 in
+returns-2 : tie.Need-returns-2
+returns-2 c =
     let entry =
     c .before .before .before .before .before .before .before .before .before .before .before .before .before .before .before .before .before .before
     .before .before .before .before .before .before .before .before .before .before .before .before .before .before .before .before .before .before
-    .before .before .before .before .before .before .before .before .before in
-    counted (omega (arith, (drain .kept .0), (drain .kept .1 .1 .1 .1 .1 .1 .0), (decref .kept .1 .1 .1 .1 .1 .0), (if3 .taken), length-replicate {A = ℕ} 64 0))
-    (then-drain _ _ _ _ _ _ _ _ (entry .pre) _ _ _ _ _ _ (decref .ensures) (omega (arith, (if3 .taken), length-replicate {A = ℕ} 64 0))
-    (decref .kept .1 .1 .1 .1 .1 .0) _ _ _ _ _ _ _ _ (drain .ensures)) (omega arith)
+    .before .before .before .before .before .before .before .before .before .before .before in
+    let decref-shared =
+    c .before .before .before .before .before .before .before .before .before .before .before .before .before .before .before .before .before .before
+    .before .before .before .before .before .before .before .before .before .before .before .before .before .before .before .before .before .before
+    .before .before .before .decref-shared in
+    let if1 =
+    c .before .before .before .before .before .before .before .before .before .before .before .before .before .before .before .before .before .before
+    .before .before .before .before .before .before .before .before .before .before .before .before .before .before .before .before .before .before
+    .if1 in
+    let if2 =
+    c .before .before .before .before .before .before .before .before .before .before .before .before .before .before .before .before .before .before
+    .before .before .before .before .before .before .before .before .before .before .before .before .before .before .before .before .before .if2 in
+    let refzero =
+    c .before .before .before .before .before .before .before .before .before .before .before .before .before .before .before .before .before .before
+    .before .before .before .before .before .before .before .before .before .before .refzero in
+    let drain = c .before .before .before .before .before .before .before .before .before .before .before .before .before .drain in
+    let same = refzero .kept .1 .1 .1 .1 .1 .0 in
+    let room : length (entry .args .kind .now) ≤ length (replicate {A = ℕ} 64 0) =
+    omega (arith, if2 .taken, length-replicate {A = ℕ} 64 0) in
+    let came = came-off-last (first-due _ _ _ _ _ _ _ _ (entry .pre) (replicate 64 0) room 0 refl) (decref-shared .ensures) (if1 .left) (refzero .ensures) in
+    counted (omega (arith, drain .kept .0, drain .kept .1 .1 .1 .1 .1 .1 .0, same, room))
+    (then-drain _ _ _ _ _ _ _ _ (entry .pre) _ _ _ _ _ _ came room same _ _ _ _ _ _ _ _ (drain .ensures)) (omega arith)
 
-decref-requires-2 : tie.Need-decref-requires-2
-decref-requires-2 c κs =
-    let entry = c .before .before .before .before .before .before .before .before .before .before .before .before .before .before .before .before in
-    first-due _ _ _ _ _ _ _ _ (entry .pre) _ (omega (arith, fit-of _ _ _ _ _ _ _ _ (entry .pre) .small, length-replicate {A = ℕ} 1024 0)) _ (omega arith)
+refzero-requires-2 : tie.Need-refzero-requires-2
+refzero-requires-2 c κs =
+    let entry =
+    c .before .before .before .before .before .before .before .before .before .before .before .before .before .before .before .before .before .before
+    in
+    let decref-shared = c .before .before .before .before .before .before .before .before .before .before .decref-shared in
+    let if1 = c .before .before .before .before .before .before .before .if1 in
+    let room2 : length (entry .args .kind .now) ≤ length (replicate {A = ℕ} 1024 0) =
+    omega (arith, fit-of _ _ _ _ _ _ _ _ (entry .pre) .small, length-replicate {A = ℕ} 1024 0) in
+    last-due (first-due _ _ _ _ _ _ _ _ (entry .pre) _ room2 _ (omega arith)) (decref-shared .ensures) (if1 .left)
 
 drain-requires-2 : tie.Need-drain-requires-2
 drain-requires-2 c κs =
     let entry =
     c .before .before .before .before .before .before .before .before .before .before .before .before .before .before .before .before .before .before
-    .before .before .before .before .before .before .before .before .before .before .before .before .before in
-    let decref2 = c .before .before .before .before .before .before .before .before .before .before .before .before .before .before .decref2 in
-    drainable _ _ _ _ _ _ _ _ (entry .pre) _ _ _ _ _ _ (decref2 .ensures) (omega (arith, fit-of _ _ _ _ _ _ _ _ (entry .pre) .small, length-replicate {A = ℕ} 1024 0))
-    (decref2 .kept .1 .1 .1 .1 .1 .0) _ _ (omega arith) (omega arith)
-
-same-length-10 : tie.Need-same-length-10
-same-length-10 c =
-    let drain2 = c .before .before .before .before .before .before .before .before .before .before .before .before .before .drain2 in
-    let decref2 =
+    .before .before .before .before .before .before .before .before .before .before .before .before .before .before .before in
+    let decref-shared =
     c .before .before .before .before .before .before .before .before .before .before .before .before .before .before .before .before .before .before
-    .before .before .before .before .before .before .before .before .before .before .decref2 in
-    (drain2 .kept .1 .1 .0) ∙ (decref2 .kept .1 .1 .0)
-
-same-length-12 : tie.Need-same-length-12
-same-length-12 c =
-    let drain2 = c .before .before .before .before .before .before .before .before .before .before .before .before .before .drain2 in
-    let decref2 =
+    .before .before .before .before .before .before .before .decref-shared in
+    let if1 =
     c .before .before .before .before .before .before .before .before .before .before .before .before .before .before .before .before .before .before
-    .before .before .before .before .before .before .before .before .before .before .decref2 in
-    (drain2 .kept .1 .1 .1 .1 .0) ∙ (decref2 .kept .1 .1 .1 .0)
+    .before .before .before .before .if1 in
+    let refzero2 = c .before .before .before .before .before .before .before .before .before .before .before .before .before .before .refzero2 in
+    let room2 : length (entry .args .kind .now) ≤ length (replicate {A = ℕ} 1024 0) =
+    omega (arith, fit-of _ _ _ _ _ _ _ _ (entry .pre) .small, length-replicate {A = ℕ} 1024 0) in
+    let came2 = came-off-last (first-due _ _ _ _ _ _ _ _ (entry .pre) (replicate 1024 0) room2 0 refl) (decref-shared .ensures) (if1 .left) (refzero2 .ensures) in
+    let same2 = refzero2 .kept .1 .1 .1 .1 .1 .0 in
+    drainable _ _ _ _ _ _ _ _ (entry .pre) _ _ _ _ _ _ came2 room2 same2 _ _ (omega arith) (omega arith)
 
-same-length-13 : tie.Need-same-length-13
-same-length-13 c =
-    let drain2 = c .before .before .before .before .before .before .before .before .before .before .before .before .before .drain2 in
-    let decref2 =
-    c .before .before .before .before .before .before .before .before .before .before .before .before .before .before .before .before .before .before
-    .before .before .before .before .before .before .before .before .before .before .decref2 in
-    (drain2 .kept .1 .1 .1 .1 .1 .0) ∙ (decref2 .kept .1 .1 .1 .1 .0)
-
-returns-4 : tie.Need-returns-4
-returns-4 c =
-    let drain2 = c .before .before .before .before .before .before .before .before .before .before .before .before .before .drain2 in
-    let decref2 =
-    c .before .before .before .before .before .before .before .before .before .before .before .before .before .before .before .before .before .before
-    .before .before .before .before .before .before .before .before .before .before .decref2 in
+returns-3 : tie.Need-returns-3
+returns-3 c =
     let entry =
     c .before .before .before .before .before .before .before .before .before .before .before .before .before .before .before .before .before .before
     .before .before .before .before .before .before .before .before .before .before .before .before .before .before .before .before .before .before
-    .before .before .before .before .before .before .before .before .before in
-    counted (omega (arith, (drain2 .kept .0), (drain2 .kept .1 .1 .1 .1 .1 .1 .0), (decref2 .kept .1 .1 .1 .1 .1 .0), fit-of _ _ _ _ _ _ _ _ (entry .pre) .small, length-replicate {A = ℕ} 1024 0))
-    (then-drain _ _ _ _ _ _ _ _ (entry .pre) _ _ _ _ _ _ (decref2 .ensures) (omega (arith, fit-of _ _ _ _ _ _ _ _ (entry .pre) .small, length-replicate {A = ℕ} 1024 0))
-    (decref2 .kept .1 .1 .1 .1 .1 .0) _ _ _ _ _ _ _ _ (drain2 .ensures)) (omega arith)
+    .before .before .before .before .before .before .before .before .before .before .before in
+    let decref-shared =
+    c .before .before .before .before .before .before .before .before .before .before .before .before .before .before .before .before .before .before
+    .before .before .before .before .before .before .before .before .before .before .before .before .before .before .before .before .before .before
+    .before .before .before .decref-shared in
+    let if1 =
+    c .before .before .before .before .before .before .before .before .before .before .before .before .before .before .before .before .before .before
+    .before .before .before .before .before .before .before .before .before .before .before .before .before .before .before .before .before .before
+    .if1 in
+    let refzero2 =
+    c .before .before .before .before .before .before .before .before .before .before .before .before .before .before .before .before .before .before
+    .before .before .before .before .before .before .before .before .before .before .refzero2 in
+    let drain2 = c .before .before .before .before .before .before .before .before .before .before .before .before .before .drain2 in
+    let same2 = refzero2 .kept .1 .1 .1 .1 .1 .0 in
+    let room2 : length (entry .args .kind .now) ≤ length (replicate {A = ℕ} 1024 0) =
+    omega (arith, fit-of _ _ _ _ _ _ _ _ (entry .pre) .small, length-replicate {A = ℕ} 1024 0) in
+    let came2 = came-off-last (first-due _ _ _ _ _ _ _ _ (entry .pre) (replicate 1024 0) room2 0 refl) (decref-shared .ensures) (if1 .left) (refzero2 .ensures) in
+    counted (omega (arith, drain2 .kept .0, drain2 .kept .1 .1 .1 .1 .1 .1 .0, same2, room2))
+    (then-drain _ _ _ _ _ _ _ _ (entry .pre) _ _ _ _ _ _ came2 room2 same2 _ _ _ _ _ _ _ _ (drain2 .ensures)) (omega arith)
 
 pub release-unlisted-spec : {M : Type 1} → statement M
 release-unlisted-spec =
     tie.close
     (tie.spec
+    decref-shared-requires
+    same-length
     returns
     (λ c. search needs)
-    (λ c. search needs)
-    slice-read-held
-    (λ c. search needs)
-    (λ c. search needs)
-    slice-write-count
-    (λ c. search needs)
-    returns-2
-    (λ c. search needs)
-    decref-requires
+    refzero-requires
     (λ c. search needs)
     drain-requires
-    (λ c. c .before .before .before .before .before .before .before .before .before .before .before .before .before .drain .kept .0)
-    (λ c. c .before .before .before .before .before .before .before .before .before .before .before .before .before .drain .kept .1 .0)
-    same-length-4
-    (λ c. c .before .before .before .before .before .before .before .before .before .before .before .before .before .drain .kept .1 .1 .1 .0)
-    same-length-6
-    same-length-7
-    returns-3
+    (λ c. after-drain c .drain .kept .0)
+    (λ c. after-drain c .drain .kept .1 .0)
+    (λ c. (after-drain c .drain .kept .1 .1 .0) ∙ (after-refzero c .refzero .kept .1 .1 .0) ∙ (after-decref-shared c .decref-shared .kept .0))
+    (λ c. after-drain c .drain .kept .1 .1 .1 .0)
+    (λ c. (after-drain c .drain .kept .1 .1 .1 .1 .0) ∙ (after-refzero c .refzero .kept .1 .1 .1 .0))
+    (λ c. (after-drain c .drain .kept .1 .1 .1 .1 .1 .0) ∙ (after-refzero c .refzero .kept .1 .1 .1 .1 .0))
+    returns-2
     (λ c. search needs)
-    decref-requires-2
+    refzero-requires-2
     (λ c. search needs)
     drain-requires-2
-    (λ c. c .before .before .before .before .before .before .before .before .before .before .before .before .before .drain2 .kept .0)
-    (λ c. c .before .before .before .before .before .before .before .before .before .before .before .before .before .drain2 .kept .1 .0)
-    same-length-10
-    (λ c. c .before .before .before .before .before .before .before .before .before .before .before .before .before .drain2 .kept .1 .1 .1 .0)
-    same-length-12
-    same-length-13
-    returns-4)
+    (λ c. after-drain2 c .drain2 .kept .0)
+    (λ c. after-drain2 c .drain2 .kept .1 .0)
+    (λ c. (after-drain2 c .drain2 .kept .1 .1 .0) ∙ (after-refzero2 c .refzero2 .kept .1 .1 .0) ∙ (after-decref-shared2 c .decref-shared .kept .0))
+    (λ c. after-drain2 c .drain2 .kept .1 .1 .1 .0)
+    (λ c. (after-drain2 c .drain2 .kept .1 .1 .1 .1 .0) ∙ (after-refzero2 c .refzero2 .kept .1 .1 .1 .0))
+    (λ c. (after-drain2 c .drain2 .kept .1 .1 .1 .1 .1 .0) ∙ (after-refzero2 c .refzero2 .kept .1 .1 .1 .1 .0))
+    returns-3)

@@ -21,8 +21,10 @@ returns c =
 
 list-cell-requires : tie.Need-list-cell-requires
 list-cell-requires c κs =
-    let entry = c .before .before .before .before .before .before .before .before .before .before in
-    omega (arith, (entry .pre .1 .1 .1), (entry .pre .1 .0 .0))
+    let entry = c .before .before .before .before .before .before .before .before .before .before in (
+      omega (arith, entry .pre .1 .1 .0 .1, entry .pre .1 .0 .0),
+      λ is. omega (arith, entry .pre .1 .1 .1 .room is, entry .pre .1 .1 .0 .0, entry .pre .1 .0 .0),
+    )
 
 free-cell-requires : tie.Need-free-cell-requires
 free-cell-requires c κs =
@@ -40,7 +42,7 @@ add-result c =
     let entry =
     c .before .before .before .before .before .before .before .before .before .before .before .before .before .before .before .before .before .before
     .before .before .before .before .before .before .before .before in
-    omega (arith, (entry .pre .1 .1 .0), (entry .pre .1 .1 .1), (entry .pre .1 .0 .0))
+    omega (arith, entry .pre .1 .1 .0 .0, entry .pre .1 .1 .0 .1, entry .pre .1 .0 .0)
 
 returns-2 : tie.Need-returns-2
 returns-2 c =
@@ -55,8 +57,8 @@ returns-2 c =
     let free-cell = c .before .before .before .before .before .before .before .before .free-cell in
     let list-cell =
     c .before .before .before .before .before .before .before .before .before .before .before .before .before .before .before .list-cell in
-    freed-one ((entry .args .cell .0)) (sym ((is-garbage .ensures)) ∙ not-false _ ((if1 .left))) ((free-cell .ensures)) ((list-cell .ensures))
-    (omega arith) ((entry .pre .1 .1 .0)) ((entry .pre .1 .0 .0)) (omega arith)
+    freed-one ((entry .args .cell .0)) (sym ((is-garbage .ensures)) ∙ not-false _ ((if1 .left))) (free-cell .ensures)
+    (λ room. list-cell .ensures (entry .pre .1 .1 .1 .asked room)) (omega arith) (entry .pre .1 .1 .0 .0) (entry .pre .1 .0 .0) (omega arith)
 
 pub wipe-cell-spec : {M : Type 1} → statement M
 wipe-cell-spec =

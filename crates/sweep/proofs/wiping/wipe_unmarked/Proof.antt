@@ -5,22 +5,22 @@ use mathlib.Core.Path.{_≡_, refl, sym, _∙_}
 use lib.ListN.{length}
 use Rattle.rules.specs.Lists.{select}
 use Rattle.sweep.specs.Phases.{isGarbage, Freed}
-use Rattle.sweep.proofs.Wipes.{freed-start, freed-length, freed-same, freed-next, freed-few, freed-all}
+use Rattle.sweep.proofs.Wipes.{lists-on, freed-start, freed-length, freed-same, freed-next, freed-few, freed-all}
 use borrow.Author.Needs.{needs}
 use Rattle.sweep.proofs.wiping.wipe_unmarked.Statement.{statement}
 use Rattle.sweep.proofs.wiping.wipe_unmarked.Tie as tie
 
 abbrev Inv-loop : tie.InvT-loop
-Inv-loop kind₀ flags₀ count₀ slots₀ marks freed₀ end₀ c₀ c-end kind flags count slots freed end c =
+Inv-loop kind₀ flags₀ count₀ slots₀ marks freed₀ listed end₀ c₀ c-end kind flags count slots freed end c =
     (c ≤ length kind₀) × Freed kind₀ flags₀ count₀ slots₀ (select (isGarbage kind₀ marks) c) kind flags count slots freed₀ 0 freed end × (length kind ≡ length kind₀)
     × (length flags ≡ length flags₀) × (length count ≡ length count₀) × (length slots ≡ length slots₀) × (length freed ≡ length freed₀)
 
 abbrev μ-loop : tie.MeasureT-loop
-μ-loop kind₀ flags₀ count₀ slots₀ marks freed₀ end₀ c₀ c-end kind flags count slots freed end c = length kind₀ - c
+μ-loop kind₀ flags₀ count₀ slots₀ marks freed₀ listed end₀ c₀ c-end kind flags count slots freed end c = length kind₀ - c
 
 loop-holds : tie.Need-loop-holds Inv-loop μ-loop
 loop-holds c =
-    let entry = c .before .before .before .before .before .before in
+    let entry = c .before .before .before .before .before .before .before .before .before in
     (omega arith, freed-start (isGarbage (entry .args .kind .now) (entry .args .marks .now)) (entry .args .freed .now) (omega arith), refl, refl, refl, refl, refl)
 
 of-requires : tie.Need-of-requires Inv-loop μ-loop
@@ -56,8 +56,9 @@ returns c = absurd (omega (arith, rw (c .enum-told .given .1) at (c .before .bef
 wipe-cell-requires : tie.Need-wipe-cell-requires Inv-loop μ-loop
 wipe-cell-requires c κs =
     let entry =
-    c .before .before .before .before .before .before .before .before .before .before .before .before .before .before .before .before .before in
+    c .before .before .before .before .before .before .before .before .before .before .before .before .before .before .before .before .before .before .before .before in
     let loop = c .before .before .before .before .before .before .before .before .before .before .loop in
+    let has-room = c .before .before .before .before .before .before .before .before .before .before .before .has-room in
     let of = c .before .before .before .before .before .before .before .before .of in
     let cell = c .before .before .before .before .before .before .cell .given in
     let is = rw (cell .1) at (of .ensures) in
@@ -66,7 +67,10 @@ wipe-cell-requires c κs =
     let len = freed-length (entry .args .marks .now) (loop .c) (entry .pre .0) done in
     let few = freed-few (entry .args .marks .now) (loop .c) (entry .pre .0) done in (
       freed-same (entry .args .marks .now) (loop .c) (entry .pre .0) done,
-      ((omega arith, entry .pre .1 .0 ∙ sym len), (omega (arith, few), omega (arith, len, entry .pre .1 .1))),
+      (
+        (omega arith, entry .pre .1 .0 ∙ sym len),
+        ((omega (arith, few), omega (arith, len, entry .pre .1 .1)), lists-on (loop .inv .2) (loop .inv .6) (has-room .ensures)),
+      ),
     )
 
 add-c : tie.Need-add-c Inv-loop μ-loop
@@ -79,7 +83,7 @@ loop-again : tie.Need-loop-again Inv-loop μ-loop
 loop-again c =
     let entry =
     c .before .before .before .before .before .before .before .before .before .before .before .before .before .before .before .before .before .before
-    .before .before .before .before .before .before .before .before .before .before in
+    .before .before .before .before .before .before .before .before .before .before .before .before .before in
     let loop =
     c .before .before .before .before .before .before .before .before .before .before .before .before .before .before .before .before .before .before
     .before .before .before .loop in
@@ -102,7 +106,7 @@ loop-again c =
 
 cast-result-2 : tie.Need-cast-result-2 Inv-loop μ-loop
 cast-result-2 c =
-    let entry = c .before .before .before .before .before .before .before .before in
+    let entry = c .before .before .before .before .before .before .before .before .before .before .before in
     let loop = c .before .loop in
     omega (arith, freed-few (entry .args .marks .now) (loop .c) (entry .pre .0) (loop .inv .1), entry .pre .1 .1, loop .inv .0)
 
@@ -123,7 +127,7 @@ same-length-10 c = c .before .loop .inv .6
 
 returns-2 : tie.Need-returns-2 Inv-loop μ-loop
 returns-2 c =
-    let entry = c .before .before .before .before .before .before .before .before in
+    let entry = c .before .before .before .before .before .before .before .before .before .before .before in
     let loop = c .before .loop in
     freed-all (entry .args .marks .now) (loop .c) (entry .pre .0) (loop .inv .1) (omega arith) (omega arith)
 
@@ -133,6 +137,7 @@ wipe-unmarked-spec =
     (tie.spec
     Inv-loop
     μ-loop
+    (λ c κs. search needs)
     loop-holds
     of-requires
     enum-known-cell
