@@ -51,8 +51,9 @@ static void run_audit(void)
 /* What the line's answer says, for `measure` to look at. */
 static void read_answer(void)
 {
-    unsigned op, refused, freed;
-    if (sscanf((char *)out, "%u,%u,%u,", &op, &refused, &freed) == 3 && op == line[0] - '0')
+    char op;
+    unsigned refused, freed;
+    if (sscanf((char *)out, "%c,%u,%u,", &op, &refused, &freed) == 3 && op == line[0])
         answer.refused = refused, answer.freed = freed;
 }
 
