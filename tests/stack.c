@@ -2,8 +2,8 @@
    was painted before: the deepest byte that lost its paint says how far the call went. The heap is a chain of 1,024
    objects, up or down, so that marking nests as deep as it may and a CLEAR frees them all.
 
-   The take-off of a line has room of 2 KiB for its work list, in its own frame. In a caller's frame it would be there in
-   calls that never use it, and in a line of COLLECT: these would pass their limits. */
+   The take-off of a line has room of 2 KiB for its work list, in its own frame. In its callers' frames it would stand in
+   calls that never use it, CLEAR and FINISH among them, and these would pass their limit. */
 #include "../include/vekszalir.h"
 
 #include <stdio.h>
