@@ -1,6 +1,6 @@
 #!/usr/bin/env python3
 """Compares the heap, its reading of lines, its audit and the two programs under test with an independent implementation of document 01
-and of Q-1 to Q-5 and Q-10 in document 02, and shows by wrong edits of the independent one that each of them is seen: by the comparison; by
+and of Q-1 to Q-6 and Q-10 in document 02, and shows by wrong edits of the independent one that each of them is seen: by the comparison; by
 the independent heap itself, which stops where it meets a count at zero; or, where calls refuse the tables that would show it, by a suite
 that runs the independent heap alone.
 

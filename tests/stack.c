@@ -11,7 +11,7 @@
 #include <ucontext.h>
 
 enum { N = 1024, STACK = 65536, PAINT = 0xA5 };
-enum { CALL = 2560, SWEEP = 3072, LINE = 3584, AUDIT = 2560 }; /* the most bytes of each kind */
+enum { CALL = 2560, LINE = 3584, AUDIT = 2560 }; /* the most bytes of each kind */
 
 static VEK_STORAGE(N) heap;
 
@@ -109,10 +109,10 @@ int main(void)
     chain(N, 1), measure("copy", run_copy, 0, CALL);
     chain(N, 1), measure("load", run_load, 0, CALL);
     chain(N, 1), measure("store", run_store, 0, CALL);
-    chain(N, 1), measure("collect, a chain up", run_collect, 0, SWEEP);
-    chain(N, 0), measure("collect, a chain down", run_collect, 0, SWEEP);
+    chain(N, 1), measure("collect, a chain up", run_collect, 0, CALL);
+    chain(N, 0), measure("collect, a chain down", run_collect, 0, CALL);
     chain(N, 1), heap.roots[0] = 0, heap.count[0] = 1, heap.slots[8 * (N - 1)] = 1;
-    measure("collect, a loose ring", run_collect, N, SWEEP);
+    measure("collect, a loose ring", run_collect, N, CALL);
     chain(N, 1), measure("clear", run_clear, N, CALL);
     waiting_chain(), measure("start", run_start, 0, CALL), measure("finish", run_finish, N, CALL);
     chain(N, 1), measure_line("take, a line of CLEAR", '2', N);

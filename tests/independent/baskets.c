@@ -3,7 +3,9 @@
 
 #include "suites.h"
 
-const size_t basket_sizes[BASKET_SIZES] = { 1, 2, 3, 8, 9, 10, 17, CELLS_MAX };
+const size_t basket_sizes[BASKET_SIZES] = {
+    1, 2, 3, 8, 9, 10, 17, 63, 64, 65, 127, 128, CELLS_MAX - 1, CELLS_MAX,
+};
 
 /* The kinds of what stands in even and in odd slots. */
 struct contents {

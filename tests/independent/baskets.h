@@ -8,7 +8,7 @@
 enum { LAST, FIRST, NO_BASKET };
 
 /* From tiny ones, where few cells are strings or buffers, to the largest. */
-enum { BASKET_SIZES = 8 };
+enum { BASKET_SIZES = 14 };
 extern const size_t basket_sizes[BASKET_SIZES];
 
 /* The tables are all zeros before, and their lengths fit. */

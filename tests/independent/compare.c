@@ -29,6 +29,11 @@ static bool compare_calls(void)
     readers();
     baskets();
     again();
+    borders();
+    orders();
+    rings();
+    filled();
+    losing();
     return coverage_report();
 }
 

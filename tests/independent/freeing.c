@@ -9,7 +9,7 @@
 #include <stdio.h>
 #include <stdlib.h>
 
-static const size_t sizes[] = { 1, 2, 3, 7, 64, CELLS_MAX };
+static const size_t sizes[] = { 1, 2, 3, 7, 63, 64, 65, 127, 128, CELLS_MAX - 1, CELLS_MAX };
 
 /* Document 01's, and unknown ones, some of which are a string's or a buffer's when they are cut to fewer bits. */
 static const uint16_t kinds[] = {

@@ -29,16 +29,6 @@ static void make_cells(struct heap *heap)
     }
 }
 
-/* The cells in random order. */
-static void shuffle(uint16_t *order, size_t n)
-{
-    for (size_t i = 0; i < n; i++) {
-        size_t j = below(i + 1);
-        order[i] = order[j];
-        order[j] = i;
-    }
-}
-
 /* Objects in random order, each holding the next one: a chain that no scan in cell order follows at once. The entry given
    holds the first; the one handed back is the last one's. */
 static uint16_t *thread_objects(struct heap *heap, uint16_t *entry)
@@ -140,5 +130,13 @@ void make_loose(struct heap *heap)
 {
     make_cells(heap);
     make_ring(heap);
+    drop_all_unreferenced(heap);
+}
+
+void make_plain(struct heap *heap)
+{
+    make_cells(heap);
+    memset(heap->flags.at, 0, heap->flags.len * sizeof *heap->flags.at);
+    make_references(heap);
     drop_all_unreferenced(heap);
 }

@@ -11,4 +11,7 @@ void make_sound(struct heap *heap);
    to run, and these reach the finalised ones. */
 void make_loose(struct heap *heap);
 
+/* No object has a finalizer: what roots don't reach, nothing keeps. */
+void make_plain(struct heap *heap);
+
 #endif

@@ -26,6 +26,15 @@ bool chance(unsigned percent)
     return below(100) < percent;
 }
 
+void shuffle(uint16_t *order, size_t n)
+{
+    for (size_t i = 0; i < n; i++) {
+        size_t j = below(i + 1);
+        order[i] = order[j];
+        order[j] = i;
+    }
+}
+
 /* Powers of two above a valid number show a number that is cut to 8, 16 or 32 bits before it is checked. */
 const size_t wild_numbers[] = {
     0, 1, 2, 3, 4, 5, 6, 7, 8, 9, 62, 63, 64, 65, 127, 128, 255, 256, 257, 1023, 1024, 8191, 8192, 32767, 32768,

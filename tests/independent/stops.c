@@ -3,6 +3,7 @@
 #include "suites.h"
 
 #include "apart.h"
+#include "holding.h"
 #include "pair.h"
 #include "parts.h"
 
@@ -41,12 +42,6 @@ static const struct taking takings[] = {
     { "the running root, which holds the head, and the bump", FINISH, { HEAD_ROOT }, HEAD, 2 },
     { "the cascade of the bump", FINISH, { HEAD_ROOT }, LEAF, 1 },
 };
-
-static void hold(struct heap *heap, uint16_t *entry, size_t cell)
-{
-    *entry = cell + 1;
-    incref(heap, *entry);
-}
 
 static void hold_in_all_slots(struct heap *heap, size_t holder, size_t cell)
 {

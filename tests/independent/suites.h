@@ -15,6 +15,11 @@ void lists(void);   /* long random lists of calls */
 void noise(void);   /* random tables, sound and not */
 void bits(void);    /* lines that arrive in bits, cut in every way */
 void readers(void); /* readers with any numbers in them */
+void borders(void); /* each cell at the border of a 64-bit word, with another fate than the rest */
+void orders(void);  /* long chains through many words, in strange orders */
+void rings(void);   /* rings through many words, with strings and finalizers */
+void filled(void);  /* heaps filled up to the border of a word */
+void losing(void);  /* random heaps that lose their roots */
 void freeing(void); /* the freeing step of the independent heap alone, on any tables */
 void stops(void);   /* counts met at zero by the independent heap alone, in tables that calls refuse */
 

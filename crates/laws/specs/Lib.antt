@@ -3,6 +3,7 @@ pub mod Sound
 pub mod Freeing
 pub mod Release
 pub mod Marking
+pub mod Words
 pub mod Reach
 pub mod Collect
 pub mod Counts

@@ -7,6 +7,7 @@ pub mod Refusals
 pub mod Release
 pub mod Marking
 pub mod Depth
+pub mod Words
 pub mod Collect
 pub mod Calls
 pub mod Asked

@@ -44,3 +44,8 @@ distinct (x ∷ l) = eqb (occ x l) 0 && distinct l
 unfoldable pub select : (ℕ → Bool) → ℕ → List ℕ
 select p zero = []
 select p (suc n) = select p n ++ cond (p n) (n ∷ []) []
+
+-- what a function gives for each number below n, in order
+unfoldable pub tabulate : (ℕ → ℕ) → ℕ → List ℕ
+tabulate f zero = []
+tabulate f (suc n) = tabulate f n ++ (f n ∷ [])

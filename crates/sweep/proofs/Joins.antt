@@ -52,7 +52,7 @@ module _ {k f n q w : List ℕ} where
 among : (p : ℕ → Bool) (c n : ℕ) → c < n → (rest : List ℕ) × (select p n ≡ (select p c ++ only (p c) c) ++ rest)
 among p c n h = let r = select-rest p (c + 1) n (omega arith) in (r .0, r .1 ∙ ap (λ (l : List ℕ). l ++ r .0) (select-next p c))
 
-module _ {k f n q w m n′ q′ w′ : List ℕ} {r : ℕ} (p : ℕ → Bool) (c : ℕ) (inside : c < length k) (room : QueueRoom k f n q w m (select p (length k)))
+module _ {k f n q w n′ q′ w′ : List ℕ} {r : ℕ} (p : ℕ → Bool) (c : ℕ) (inside : c < length k) (room : QueueRoom k f n q w (select p (length k)))
     (a : Queued k f n q w (select p c) n′ q′ w′ r) where
   h : Heap
   h = tables k f n [] [] q w
@@ -77,12 +77,11 @@ module _ {k f n q w m n′ q′ w′ : List ℕ} {r : ℕ} (p : ℕ → Bool) (c
   is = a .heap [] []
 
   -- what the loop's next turn asks
-  pub room-turn : QueueRoom k f n′ q′ w′ m (only (p c) c)
+  pub room-turn : QueueRoom k f n′ q′ w′ (only (p c) c)
   unfolding h
   room-turn = record {
     fit = refit refl refl (ap (λ (g : Heap). length (g .count)) is ∙ passed .countLength) (ap (λ (g : Heap). length (g .queue)) is ∙ passed .queueLength)
         (ap (λ (g : Heap). length (g .control)) is ∙ passed .controlLength) (room .fit);
-    marks-size = room .marks-size;
     room = omega (arith, room .room, sum, passed .queuedIs, ap (λ (g : Heap). getD (g .control) 0 0) is);
     small = λ x. omega (arith, room .small x, occs x, passed .count x, ap (λ (g : Heap). getD (g .count) x 0) is);
   }
@@ -92,7 +91,7 @@ module _ {k f n q w m n′ q′ w′ : List ℕ} {r : ℕ} (p : ℕ → Bool) (c
   queued-small = omega (arith, a .many, room .room, room .fit .small, sum)
 
 -- room for one cell that is due
-pub room-one : {k f n q w m : List ℕ} (c : ℕ) {b : Bool} → b ≡ true → QueueRoom k f n q w m (only b c) → (getD w 0 0 < length k) × (getD n c 0 + 1 < 65536)
-room-one {k} {f} {n} {q} {w} {m} c e room =
-    let one : QueueRoom k f n q w m (c ∷ []) = subst (λ (b : Bool). QueueRoom k f n q w m (only b c)) e room in
+pub room-one : {k f n q w : List ℕ} (c : ℕ) {b : Bool} → b ≡ true → QueueRoom k f n q w (only b c) → (getD w 0 0 < length k) × (getD n c 0 + 1 < 65536)
+room-one {k} {f} {n} {q} {w} c e room =
+    let one : QueueRoom k f n q w (c ∷ []) = subst (λ (b : Bool). QueueRoom k f n q w (only b c)) e room in
     (omega (arith, one .room), omega (arith, one .small c, occ-one c c refl))

@@ -1,3 +1,4 @@
+pub mod Searches
 pub mod Joins
 pub mod Lowers
 pub mod Unlinks

@@ -2,38 +2,33 @@
 -- Assumes nothing.
 use Prim.Native.Nat.{ℕ, suc, _+_, _<_}
 use native.Mathlib.Omega.{arith}
-use mathlib.Core.List.{List, [], _++_}
-use mathlib.Core.Bool.{Bool, true, false}
+use mathlib.Core.List.{List, [], _∷_, _++_}
+use mathlib.Core.Bool.{Bool, true}
 use mathlib.Core.Path.{_≡_, refl, sym, ap, _∙_}
 use lib.ListN.{getD}
 use Rattle.rules.specs.Lists.{select}
 use Rattle.rules.specs.Heap.{Heap, tables, countOf, slotsOf, plain}
 use Rattle.rules.specs.Collect.{unlinkAll}
-use Rattle.laws.specs.Lists.Select.{select-next, select-rest}
+use Rattle.laws.specs.Lists.Select.{select-passing, select-rest}
 use Rattle.laws.specs.Sound.But.{PlainSlots}
 use Rattle.laws.specs.Freeing.{plain-none}
 use Rattle.laws.specs.Collect.Append.{unlink-append}
 use Rattle.laws.specs.Collect.Unlinking.{Covered, lower-none, heldBy, heldBy-append, SlotsCovered, slots-covered-first, unlinked}
-use Rattle.sweep.specs.Phases.{only, TakenOff, Unlinked}
+use Rattle.sweep.specs.Phases.{TakenOff, Unlinked}
 
--- ---- a cell, if it passes
-
-pub unlinked-none : {slots n : List ℕ} (c : ℕ) {b : Bool} → b ≡ false → Unlinked slots n (only b c) n
-unfolding unlinkAll
-unlinked-none c e = record { heap = λ k f t q w. rw e refl }
+-- ---- one cell
 
 -- a string or buffer, whose slots are empty
-pub unlinked-plain : {slots n : List ℕ} (kind : List ℕ) (c : ℕ) {b : Bool} → b ≡ true → PlainSlots kind slots → plain (getD kind c 0) ≡ true
-    → Unlinked slots n (only b c) n
+pub unlinked-plain : {slots n : List ℕ} (kind : List ℕ) (c : ℕ) → PlainSlots kind slots → plain (getD kind c 0) ≡ true → Unlinked slots n (c ∷ []) n
 unfolding unlinkAll
-unlinked-plain {slots} kind c e empty is = record { heap = λ k f t q w. rw e (sym (lower-none _ (slotsOf slots c) (plain-none kind slots c empty is))) }
+unlinked-plain {slots} kind c empty is = record { heap = λ k f t q w. sym (lower-none _ (slotsOf slots c) (plain-none kind slots c empty is)) }
 
-pub unlinked-one : {slots n n′ : List ℕ} (c : ℕ) {b : Bool} → b ≡ true → TakenOff n (slotsOf slots c) n′ → Unlinked slots n (only b c) n′
+pub unlinked-one : {slots n n′ : List ℕ} (c : ℕ) → TakenOff n (slotsOf slots c) n′ → Unlinked slots n (c ∷ []) n′
 unfolding unlinkAll
-unlinked-one {slots} c e a = record { heap = λ k f t q w. rw e (a .heap k f slots t q w) }
+unlinked-one {slots} c a = record { heap = λ k f t q w. a .heap k f slots t q w }
 
-pub covered-one : {slots n : List ℕ} (c : ℕ) {b : Bool} → b ≡ true → SlotsCovered slots n (only b c) → Covered n (slotsOf slots c)
-covered-one {slots} {n} c e v = slots-covered-first (tables [] [] n slots [] [] []) c [] (rw e at v)
+pub covered-one : {slots n : List ℕ} (c : ℕ) → SlotsCovered slots n (c ∷ []) → Covered n (slotsOf slots c)
+covered-one {slots} {n} c v = slots-covered-first (tables [] [] n slots [] [] []) c [] v
 
 -- ---- cells, some after others
 
@@ -62,12 +57,15 @@ pub unlinked-start : {slots n : List ℕ} (p : ℕ → Bool) → Unlinked slots 
 unfolding unlinkAll select
 unlinked-start p = record { heap = λ k f t q w. refl }
 
-module _ {slots n n′ : List ℕ} (p : ℕ → Bool) (c : ℕ) (a : Unlinked slots n (select p c) n′) where
-  pub unlinked-next : {n″ : List ℕ} → Unlinked slots n′ (only (p c) c) n″ → Unlinked slots n (select p (c + 1)) n″
-  unlinked-next b = rw (select-next p c) (unlinked-then (select p c) (only (p c) c) a b)
+module _ {slots n n′ : List ℕ} (p : ℕ → Bool) (c : ℕ) (passes : p c ≡ true) (a : Unlinked slots n (select p c) n′) where
+  with-this : select p (suc c) ≡ select p c ++ (c ∷ [])
+  with-this = select-passing p c passes
 
-  pub slots-covered-next : (cells : ℕ) → c < cells → SlotsCovered slots n (select p cells) → SlotsCovered slots n′ (only (p c) c)
+  pub unlinked-next : {n″ : List ℕ} → Unlinked slots n′ (c ∷ []) n″ → Unlinked slots n (select p (suc c)) n″
+  unlinked-next b = rw with-this (unlinked-then (select p c) (c ∷ []) a b)
+
+  pub slots-covered-next : (cells : ℕ) → c < cells → SlotsCovered slots n (select p cells) → SlotsCovered slots n′ (c ∷ [])
   slots-covered-next cells b v =
-      let rest = select-rest p (c + 1) cells (omega arith) in
-      let front : SlotsCovered slots n (select p (c + 1)) = slots-covered-front (select p (c + 1)) (rest .0) (rw (rest .1) at v) in
-      slots-covered-then (select p c) (only (p c) c) (rw (select-next p c) at front) a
+      let rest = select-rest p (suc c) cells (omega arith) in
+      let front : SlotsCovered slots n (select p (suc c)) = slots-covered-front (select p (suc c)) (rest .0) (rw (rest .1) at v) in
+      slots-covered-then (select p c) (c ∷ []) (rw with-this at front) a

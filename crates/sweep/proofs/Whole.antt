@@ -1,18 +1,20 @@
 -- The parts of COLLECT together, on a sound heap: what each part asks holds where it is called, and the whole is the rules' COLLECT.
 -- Assumes nothing.
-use Prim.Native.Nat.{ℕ, zero, suc, _+_, _-_, _≤_}
+use Prim.Native.Nat.{ℕ, suc, _+_, _-_, _≤_, _<_}
 use native.Mathlib.Omega.{arith}
-use mathlib.Core.List.{List, [], _∷_, _++_, map}
+use native.Mathlib.Decide.{decLt}
+use mathlib.Core.List.{List, [], _++_, map}
 use mathlib.Core.Bool.{cond}
 use mathlib.Core.Path.{_≡_, refl, sym, ap, subst, subst⁻¹, _∙_}
-use lib.ListN.{length, getD, take, drop, replicate, length-replicate}
+use lib.ListN.{length, getD, take, drop, replicate}
 use lib.Seq.{take-add, drop-at, length-take-le}
 use lib.Dec.{eqb}
 use Rattle.rules.specs.Lists.{select}
 use Rattle.rules.specs.Heap.{Heap, tables, cells, queued, entries}
 use Rattle.rules.specs.Release.{finalizable}
 use Rattle.rules.specs.Marking.{markFrom}
-use Rattle.rules.specs.Collect.{reachedMarks, unreachedFinalizable, keptMarks, garbage, enqueueAll, wipeAll, rescueAll, rescued, swept, collect}
+use Rattle.rules.specs.Words.{markedOf, bitsOf, marksOf}
+use Rattle.rules.specs.Collect.{unlinkAll, reachedMarks, unreachedFinalizable, keptMarks, garbage, enqueueAll, wipeAll, rescueAll, rescued, swept, collect}
 use Rattle.rules.specs.Calls.{answers}
 use Rattle.laws.specs.Marking.Marks.{Within, Slots, ClosedMarks}
 use Rattle.laws.specs.Marking.Closure.{zeros-settled}
@@ -21,78 +23,118 @@ use Rattle.laws.specs.Sound.But.{PlainSlots, SoundBut}
 use Rattle.laws.specs.Sound.Facts.{facts-ready, largest-count}
 use Rattle.laws.specs.Collect.Phases.{Enqueued, enqueued}
 use Rattle.laws.specs.Collect.Unlinking.{SlotsCovered}
-use Rattle.laws.specs.Collect.Live.{due-only, due-once, due-room, due-within, kept-length}
+use Rattle.laws.specs.Collect.Live.{due-only, due-once, due-room, due-within, kept-bits, live-used}
 use Rattle.laws.specs.Collect.Left.{unlink-covered}
-use Rattle.sweep.specs.Phases.{isRescued, dueOf, garbageOf, rescuedOf, QueueRoom, Queued, Unlinked, Same, Freed, Decided, MarkedQueued, rounds, Swept, Collected}
+use Rattle.laws.specs.Words.Cells.{getD-bitsOf}
+use Rattle.laws.specs.Words.Marks.{WordsFor, Pictured, marks-zeros, words-zeros, marked-bits, marked-spare}
+use Rattle.marking.specs.Steps.{cellsOf}
+use Rattle.sweep.specs.Phases.{isRescued, dueOf, garbageOf, rescuedOf, MarkedUsed, Words, QueueRoom, Queued, Unlinked, Same, Freed, Decided, MarkedQueued, rounds, Swept, Collected}
+
+-- sixteen words for the used cells, and twice as many for the marks, all zero
+pub start-words : (n : ℕ) (used marks : List ℕ) → 0 < n → n ≤ 1024 → length used ≡ 16 → marks ≡ replicate 32 0 → Words n used marks
+start-words n used marks some few size zeros = rw zeros (record {
+  room = omega arith;
+  same = sym size;
+  few = omega arith;
+  unmarked = record { fits = words-zeros n 32 some few; marks = marks-zeros n 32 };
+})
+
+-- the number of cells, by the slots table
+pub cells-of : {h : Heap} → SoundBut h [] → cellsOf (h .slots) ≡ cells h
+cells-of s = omega (arith, s .slots)
 
 module _ {h : Heap} (s : SoundBut h []) where
-  sized : (m : List ℕ) → length m ≡ cells h → Slots (h .slots) (length m)
-  sized m e = rw e (record { fit = s .slots; within = slots-within h s })
+  by-slots : (P : ℕ → Type 0) → P (cells h) → P (cellsOf (h .slots))
+  by-slots P p = subst P (sym (cells-of s)) p
+
+  sized : Slots (h .slots) (cells h)
+  sized = record { fit = s .slots; within = slots-within h s }
 
   -- ---- the first marking
 
-  pub first-asks : (m : List ℕ) → m ≡ replicate (cells h) 0
-      → Slots (h .slots) (length m) × (Within (length m) (h .roots) × (Within (length m) (entries h) × ClosedMarks (h .slots) m))
-  first-asks m e =
-      let l : length m ≡ cells h = ap length e ∙ length-replicate (cells h) 0 in
-      (sized m l, (rw l (roots-within h s), (rw l (entries-within h s), rw e (zeros-settled (cells h)))))
+  module _ {words : List ℕ} (p : Pictured (cells h) words (replicate (cells h) 0)) where
+    pub first-asks : Slots (h .slots) (cellsOf (h .slots)) × (WordsFor (cellsOf (h .slots)) words × (Within (cellsOf (h .slots)) (h .roots)
+        × (Within (cellsOf (h .slots)) (entries h) × ClosedMarks (h .slots) (marksOf (cellsOf (h .slots)) words))))
+    first-asks =
+        by-slots (λ (n : ℕ). Slots (h .slots) n × (WordsFor n words × (Within n (h .roots) × (Within n (entries h) × ClosedMarks (h .slots) (marksOf n words)))))
+        (sized, (p .fits, (roots-within h s, (entries-within h s, rw (p .marks) (zeros-settled (cells h))))))
 
-  pub first-marks : (m m₁ : List ℕ) → m ≡ replicate (cells h) 0 → m₁ ≡ markFrom (h .slots) m (h .roots ++ entries h) → m₁ ≡ reachedMarks h
-  unfolding reachedMarks
-  first-marks m m₁ e e₁ = e₁ ∙ ap (λ (x : List ℕ). markFrom (h .slots) x (h .roots ++ entries h)) e
+    pub first-marks : {words₁ : List ℕ} → Pictured (cellsOf (h .slots)) words₁ (markFrom (h .slots) (marksOf (cellsOf (h .slots)) words) (h .roots ++ entries h))
+        → Pictured (cells h) words₁ (reachedMarks h)
+    unfolding reachedMarks
+    first-marks {words₁} q =
+        let q₁ : Pictured (cells h) words₁ (markFrom (h .slots) (marksOf (cells h) words) (h .roots ++ entries h)) =
+        subst (λ (n : ℕ). Pictured n words₁ (markFrom (h .slots) (marksOf n words) (h .roots ++ entries h))) (cells-of s) q in
+        record { fits = q₁ .fits; marks = q₁ .marks ∙ ap (λ (x : List ℕ). markFrom (h .slots) x (h .roots ++ entries h)) (p .marks) }
 
   -- ---- the queueing
 
-  due-is : (m₁ : List ℕ) → m₁ ≡ reachedMarks h → dueOf (h .kind) (h .flags) m₁ ≡ unreachedFinalizable h
-  unfolding unreachedFinalizable finalizable
-  due-is m₁ e = ap (λ (m : List ℕ). dueOf (h .kind) (h .flags) m) e
+  module _ {words₁ : List ℕ} (p₁ : Pictured (cells h) words₁ (reachedMarks h)) where
+    reached-words : bitsOf (cells h) (markedOf words₁) ≡ reachedMarks h
+    reached-words = marked-bits (cells h) words₁ (reachedMarks h) p₁ (reached-settled h s .bits)
 
-  pub queue-asks : (m₁ : List ℕ) → m₁ ≡ reachedMarks h → QueueRoom (h .kind) (h .flags) (h .count) (h .queue) (h .control) m₁ (dueOf (h .kind) (h .flags) m₁)
-  queue-asks m₁ e = subst (λ (l : List ℕ). QueueRoom (h .kind) (h .flags) (h .count) (h .queue) (h .control) m₁ l) (sym (due-is m₁ e)) (record {
-    fit = s .fit;
-    marks-size = ap length e ∙ reached-length h s;
-    room = due-room h s;
-    small = λ x. omega (arith, largest-count (facts-ready s) x, due-once h s x);
-  })
+    due-is : dueOf (h .kind) (h .flags) (bitsOf (cells h) (markedOf words₁)) ≡ unreachedFinalizable h
+    unfolding unreachedFinalizable finalizable
+    due-is = ap (λ (m : List ℕ). dueOf (h .kind) (h .flags) m) reached-words
 
-  -- ---- the second marking
+    pub queue-asks : QueueRoom (h .kind) (h .flags) (h .count) (h .queue) (h .control) (dueOf (h .kind) (h .flags) (bitsOf (cells h) (markedOf words₁)))
+    queue-asks = subst (λ (l : List ℕ). QueueRoom (h .kind) (h .flags) (h .count) (h .queue) (h .control) l) (sym due-is) (record {
+      fit = s .fit;
+      room = due-room h s;
+      small = λ x. omega (arith, largest-count (facts-ready s) x, due-once h s x);
+    })
 
-  module _ {n′ q′ w′ m₁ : List ℕ} {r : ℕ} (e : m₁ ≡ reachedMarks h) (a : Queued (h .kind) (h .flags) (h .count) (h .queue) (h .control) (dueOf (h .kind) (h .flags) m₁) n′ q′ w′ r) where
-    joined : tables (h .kind) (h .flags) n′ (h .slots) (h .roots) q′ w′ ≡ enqueueAll h (unreachedFinalizable h)
-    joined = a .heap (h .slots) (h .roots) ∙ ap (enqueueAll h) (due-is m₁ e)
+    -- ---- the second marking
 
-    many : r ≡ length (unreachedFinalizable h)
-    many = a .many ∙ ap length (due-is m₁ e)
+    module _ {n′ q′ w′ : List ℕ} {r : ℕ}
+        (a : Queued (h .kind) (h .flags) (h .count) (h .queue) (h .control) (dueOf (h .kind) (h .flags) (bitsOf (cells h) (markedOf words₁))) n′ q′ w′ r) where
+      joined : tables (h .kind) (h .flags) n′ (h .slots) (h .roots) q′ w′ ≡ enqueueAll h (unreachedFinalizable h)
+      joined = a .heap (h .slots) (h .roots) ∙ ap (enqueueAll h) due-is
 
-    phase : Enqueued h (enqueueAll h (unreachedFinalizable h)) (unreachedFinalizable h)
-    phase =
-        enqueued h (unreachedFinalizable h) (s .fit .control-size) (omega (arith, due-room h s, s .fit .queue-size))
-        (λ x b. omega (arith, s .fit .count-size, due-only h s x b .range))
+      many : r ≡ length (unreachedFinalizable h)
+      many = a .many ∙ ap length due-is
 
-    -- the new entries lie behind the old ones
-    pub queue-end : queued h + r ≤ length q′
-    queue-end = omega (arith, due-room h s, many, s .fit .queue-size, phase .queueLength, ap (λ (g : Heap). length (g .queue)) joined)
+      phase : Enqueued h (enqueueAll h (unreachedFinalizable h)) (unreachedFinalizable h)
+      phase =
+          enqueued h (unreachedFinalizable h) (s .fit .control-size) (omega (arith, due-room h s, s .fit .queue-size))
+          (λ x b. omega (arith, s .fit .count-size, due-only h s x b .range))
 
-    new : take r (drop (queued h) q′) ≡ map suc (unreachedFinalizable h)
-    new =
-        let old : length (entries h) ≡ queued h = length-take-le (queued h) (h .queue) (omega (arith, due-room h s, s .fit .queue-size)) in
-        let front : length (take (queued h) q′) ≡ queued h = length-take-le (queued h) q′ (omega (arith, queue-end)) in
-        let end : queued h + r ≡ getD w′ 0 0 = omega (arith, many, phase .queuedIs, ap (λ (g : Heap). getD (g .control) 0 0) joined) in
-        let all : take (queued h + r) q′ ≡ entries h ++ map suc (unreachedFinalizable h) = ap (λ (x : ℕ). take x q′) end ∙ ap (λ (g : Heap). entries g) joined ∙ phase .entriesIs in
-        sym (drop-at (take (queued h) q′) (take r (drop (queued h) q′)) (queued h) front)
-        ∙ ap (drop (queued h)) (sym (take-add (queued h) r q′) ∙ all)
-        ∙ drop-at (entries h) (map suc (unreachedFinalizable h)) (queued h) old
+      -- the new entries lie behind the old ones
+      pub queue-end : queued h + r ≤ length q′
+      queue-end = omega (arith, due-room h s, many, s .fit .queue-size, phase .queueLength, ap (λ (g : Heap). length (g .queue)) joined)
 
-    part : take (queued h + r - queued h) (drop (queued h) q′) ≡ map suc (unreachedFinalizable h)
-    part = let x : queued h + r - queued h ≡ r = omega arith in ap (λ (y : ℕ). take y (drop (queued h) q′)) x ∙ new
+      new : take r (drop (queued h) q′) ≡ map suc (unreachedFinalizable h)
+      new =
+          let old : length (entries h) ≡ queued h = length-take-le (queued h) (h .queue) (omega (arith, due-room h s, s .fit .queue-size)) in
+          let front : length (take (queued h) q′) ≡ queued h = length-take-le (queued h) q′ (omega (arith, queue-end)) in
+          let end : queued h + r ≡ getD w′ 0 0 = omega (arith, many, phase .queuedIs, ap (λ (g : Heap). getD (g .control) 0 0) joined) in
+          let all : take (queued h + r) q′ ≡ entries h ++ map suc (unreachedFinalizable h) = ap (λ (x : ℕ). take x q′) end ∙ ap (λ (g : Heap). entries g) joined ∙ phase .entriesIs in
+          sym (drop-at (take (queued h) q′) (take r (drop (queued h) q′)) (queued h) front)
+          ∙ ap (drop (queued h)) (sym (take-add (queued h) r q′) ∙ all)
+          ∙ drop-at (entries h) (map suc (unreachedFinalizable h)) (queued h) old
 
-    pub second-asks : Slots (h .slots) (length m₁) × (Within (length m₁) (take (queued h + r - queued h) (drop (queued h) q′)) × ClosedMarks (h .slots) m₁)
-    second-asks = (sized m₁ (ap length e ∙ reached-length h s), (rw (part, e) (due-within h s), rw e (reached-settled h s)))
+      part : take (queued h + r - queued h) (drop (queued h) q′) ≡ map suc (unreachedFinalizable h)
+      part = let x : queued h + r - queued h ≡ r = omega arith in ap (λ (y : ℕ). take y (drop (queued h) q′)) x ∙ new
 
-    pub second-kept : (m₂ : List ℕ) → m₂ ≡ markFrom (h .slots) m₁ (take (queued h + r - queued h) (drop (queued h) q′))
-        → MarkedQueued h (tables (h .kind) (h .flags) n′ (h .slots) (h .roots) q′ w′) m₂ r
-    unfolding keptMarks
-    second-kept m₂ x = record { heap = joined; marked = x ∙ (λ i. markFrom (h .slots) (e i) (part i)); many = many }
+      pub second-asks : Slots (h .slots) (cellsOf (h .slots)) × (WordsFor (cellsOf (h .slots)) words₁
+          × (Within (cellsOf (h .slots)) (take (queued h + r - queued h) (drop (queued h) q′)) × ClosedMarks (h .slots) (marksOf (cellsOf (h .slots)) words₁)))
+      second-asks =
+          let new-within : Within (cells h) (take (queued h + r - queued h) (drop (queued h) q′)) = rw (part, ← reached-length h s) (due-within h s) in
+          by-slots (λ (n : ℕ). Slots (h .slots) n × (WordsFor n words₁ × (Within n (take (queued h + r - queued h) (drop (queued h) q′)) × ClosedMarks (h .slots) (marksOf n words₁))))
+          (sized, (p₁ .fits, (new-within, rw (p₁ .marks) (reached-settled h s))))
+
+      pub second-kept : {words₂ : List ℕ}
+          → Pictured (cellsOf (h .slots)) words₂ (markFrom (h .slots) (marksOf (cellsOf (h .slots)) words₁) (take (queued h + r - queued h) (drop (queued h) q′)))
+          → MarkedQueued h (tables (h .kind) (h .flags) n′ (h .slots) (h .roots) q′ w′) words₂ r
+      unfolding keptMarks
+      second-kept {words₂} q =
+          let q₁ : Pictured (cells h) words₂ (markFrom (h .slots) (marksOf (cells h) words₁) (take (queued h + r - queued h) (drop (queued h) q′))) =
+          subst (λ (n : ℕ). Pictured n words₂ (markFrom (h .slots) (marksOf n words₁) (take (queued h + r - queued h) (drop (queued h) q′)))) (cells-of s) q in
+          record {
+            heap = joined;
+            marked = record { fits = q₁ .fits; marks = q₁ .marks ∙ (λ i. markFrom (h .slots) (p₁ .marks i) (part i)) };
+            many = many;
+          }
 
 -- ---- both rounds
 
@@ -104,54 +146,56 @@ rounds-join {k} {f} {m = m} a b = record {
   listed = b .listed;
 }
 
+-- no round where there is no garbage
+pub rounds-none : {k f n s m list : List ℕ} → garbageOf k m ≡ [] → Swept k f n s m k f n s list list 0
+unfolding wipeAll unlinkAll
+rounds-none e = record { heap = λ t q w. rw e refl; many = rw e refl; listed = λ fits. rw e refl }
+
 -- ---- COLLECT
 
-module _ {h : Heap} {n₁ q₁ w₁ m : List ℕ} {r : ℕ} (a : MarkedQueued h (tables (h .kind) (h .flags) n₁ (h .slots) (h .roots) q₁ w₁) m r) where
-  dead : garbageOf (h .kind) m ≡ garbage h
+module _ {h : Heap} (s : SoundBut h []) {n₁ q₁ w₁ words : List ℕ} {r : ℕ} (a : MarkedQueued h (tables (h .kind) (h .flags) n₁ (h .slots) (h .roots) q₁ w₁) words r) where
+  -- the words' bits are the plain marks
+  kept-words : bitsOf (cells h) (markedOf words) ≡ keptMarks h
+  kept-words = marked-bits (cells h) words (keptMarks h) (a .marked) (kept-bits h s)
+
+  dead : garbageOf (h .kind) (bitsOf (cells h) (markedOf words)) ≡ garbage h
   unfolding garbage
-  dead = ap (λ (x : List ℕ). garbageOf (h .kind) x) (a .marked)
+  dead = ap (λ (x : List ℕ). garbageOf (h .kind) x) kept-words
+
+  -- only used cells are marked
+  pub marked-used : MarkedUsed (h .kind) (markedOf words)
+  marked-used c one = elim (decLt c (cells h)) [
+    | yes l ↦ live-used h s c (omega (arith, sym (getD-bitsOf (cells h) (markedOf words) c l) ∙ ap (λ (m : List ℕ). getD m c 0) kept-words))
+    | no f ↦ absurd (omega (arith, marked-spare (cells h) words (keptMarks h) (a .marked) c (omega arith)))
+  ]
 
   -- what the sweep asks, after the queueing: above all, that the references of the garbage are counted
-  pub sweep-asks : SoundBut h [] → length n₁ ≡ length (h .count)
-      → Same (h .kind) (h .flags) n₁ (h .slots) × (((length m ≡ length (h .kind)) × (length (h .kind) ≤ 1024))
-      × (PlainSlots (h .kind) (h .slots) × SlotsCovered (h .slots) n₁ (garbageOf (h .kind) m)))
-  sweep-asks s e = (
+  pub sweep-asks : length n₁ ≡ length (h .count)
+      → Same (h .kind) (h .flags) n₁ (h .slots) × (PlainSlots (h .kind) (h .slots) × SlotsCovered (h .slots) n₁ (garbageOf (h .kind) (bitsOf (cells h) (markedOf words))))
+  sweep-asks e = (
     record { flags-size = s .fit .flags-size; count-size = e ∙ s .fit .count-size; slots-size = s .slots },
-    (
-      (ap length (a .marked) ∙ kept-length h s, s .fit .small),
-      (s .shaped .plainSlots, rw dead (subst⁻¹ (λ (g : Heap). SlotsCovered (g .slots) (g .count) (garbage h)) (a .heap) (unlink-covered h s))),
-    ),
+    (s .shaped .plainSlots, rw dead (subst⁻¹ (λ (g : Heap). SlotsCovered (g .slots) (g .count) (garbage h)) (a .heap) (unlink-covered h s))),
   )
 
-module _ {h : Heap} {n₁ q₁ w₁ m : List ℕ} {r : ℕ} (a : MarkedQueued h (tables (h .kind) (h .flags) n₁ (h .slots) (h .roots) q₁ w₁) m r)
-    {k′ f′ n′ s′ room list : List ℕ} {freed : ℕ} (b : Swept (h .kind) (h .flags) n₁ (h .slots) m k′ f′ n′ s′ room list freed) (size : length f′ ≡ cells h) where
-  swept-is : tables k′ f′ n′ s′ (h .roots) q₁ w₁ ≡ swept h
-  unfolding swept
-  swept-is = b .heap (h .roots) q₁ w₁ ∙ (λ i. rounds (a .heap i) (dead a i))
+  module _ {k′ f′ n′ s′ room list : List ℕ} {freed : ℕ}
+      (b : Swept (h .kind) (h .flags) n₁ (h .slots) (bitsOf (cells h) (markedOf words)) k′ f′ n′ s′ room list freed) (size : length f′ ≡ cells h) where
+    swept-is : tables k′ f′ n′ s′ (h .roots) q₁ w₁ ≡ swept h
+    unfolding swept
+    swept-is = b .heap (h .roots) q₁ w₁ ∙ (λ i. rounds (a .heap i) (dead i))
 
-  rescued-are : cond (eqb (queued h) 0) (rescuedOf f′ m) [] ≡ rescued h
-  unfolding rescued
-  rescued-are i = cond (eqb (queued h) 0) (select (isRescued (swept-is i .flags) (a .marked i)) (size i)) []
+    rescued-are : cond (eqb (queued h) 0) (rescuedOf f′ (bitsOf (length f′) (markedOf words))) [] ≡ rescued h
+    unfolding rescued
+    rescued-are =
+        let m : bitsOf (length f′) (markedOf words) ≡ keptMarks h = ap (λ (n : ℕ). bitsOf n (markedOf words)) size ∙ kept-words in
+        λ i. cond (eqb (queued h) 0) (select (isRescued (swept-is i .flags) (m i)) (size i)) []
 
-  pub collect-joins : {waiting refused listed joined cell : ℕ} {f″ : List ℕ} → Decided waiting f′ m f″ → waiting ≡ queued h
-      → refused ≡ 0 → listed ≡ freed → joined ≡ r → cell ≡ 0 → Collected h room (tables k′ f″ n′ s′ (h .roots) q₁ w₁) list (answers refused listed joined cell)
-  unfolding collect
-  collect-joins x e done all-listed all-joined none =
-      let saved = ap (λ (w : ℕ). cond (eqb w 0) (rescuedOf f′ m) []) e ∙ rescued-are in
-      let many = b .many ∙ ap length (dead a) in record {
-        heap = x .restored .heap k′ n′ s′ (h .roots) q₁ w₁ ∙ (λ i. rescueAll (swept-is i) (saved i));
-        listed = λ fits. ap (λ (i : ℕ). take i list) (sym many) ∙ b .listed fits ∙ ap (map suc) (dead a);
-        answered = λ i. answers (done i) ((all-listed ∙ many) i) ((all-joined ∙ a .many) i) (none i);
-      }
-
--- marks that are all unmarked: their number, and the part that is lent
-pub zeros-length : (k : ℕ) (m : List ℕ) → m ≡ replicate k 0 → length m ≡ k
-zeros-length k m e = ap length e ∙ length-replicate k 0
-
-pub zeros-front : (n k : ℕ) (m : List ℕ) → m ≡ replicate k 0 → n ≤ k → take n m ≡ replicate n 0
-zeros-front n k m e h = ap (take n) e ∙ go n k h
-  where
-    go : (n k : ℕ) → n ≤ k → take {A = ℕ} n (replicate k 0) ≡ replicate n 0
-    go zero k h = refl
-    go (suc n) zero h = absurd (omega arith)
-    go (suc n) (suc k) h = ap (λ (l : List ℕ). 0 ∷ l) (go n k (omega arith))
+    pub collect-joins : {waiting refused listed joined cell : ℕ} {f″ : List ℕ} → Decided waiting f′ (bitsOf (length f′) (markedOf words)) f″ → waiting ≡ queued h
+        → refused ≡ 0 → listed ≡ freed → joined ≡ r → cell ≡ 0 → Collected h room (tables k′ f″ n′ s′ (h .roots) q₁ w₁) list (answers refused listed joined cell)
+    unfolding collect
+    collect-joins x e done all-listed all-joined none =
+        let saved = ap (λ (w : ℕ). cond (eqb w 0) (rescuedOf f′ (bitsOf (length f′) (markedOf words))) []) e ∙ rescued-are in
+        let many = b .many ∙ ap length dead in record {
+          heap = x .restored .heap k′ n′ s′ (h .roots) q₁ w₁ ∙ (λ i. rescueAll (swept-is i) (saved i));
+          listed = λ fits. ap (λ (i : ℕ). take i list) (sym many) ∙ b .listed fits ∙ ap (map suc) dead;
+          answered = λ i. answers (done i) ((all-listed ∙ many) i) ((all-joined ∙ a .many) i) (none i);
+        }

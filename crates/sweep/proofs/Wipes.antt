@@ -1,22 +1,21 @@
--- Laws of the second round: one cell becomes free and is listed, or none, cell after cell; the cells to come keep their kind.
+-- Laws of the second round: one cell after another becomes free and is listed.
 -- Assumes nothing.
 use Prim.Native.Nat.{ℕ, suc, _+_, _*_, _≤_, _<_}
 use native.Mathlib.Omega.{arith}
-use mathlib.Core.List.{List, [], _∷_, _++_, map, map-append, append-nil, append-assoc}
-use mathlib.Core.Bool.{Bool, true, false, not, _&&_, true≢false}
+use mathlib.Core.List.{List, [], _∷_, _++_, map, map-append, append-assoc}
+use mathlib.Core.Bool.{Bool, true, false, true≢false}
 use mathlib.Core.Path.{_≡_, refl, sym, ap, subst, _∙_}
-use lib.Dec.{eqb}
-use lib.ListN.{length, getD, take, set, length-append}
+use lib.ListN.{length, take, set, length-append}
 use lib.Seq.{take-suc-set}
 use Rattle.rules.specs.Lists.{select}
 use Rattle.rules.specs.Heap.{Heap, tables}
 use Rattle.rules.specs.Collect.{wipeAll}
-use Rattle.laws.specs.Lists.Select.{select-only, select-once, select-next, select-new}
+use Rattle.laws.specs.Lists.Select.{select-only, select-once, select-passing}
 use Rattle.laws.specs.Lists.Pigeonhole.{pigeonhole}
 use Rattle.laws.specs.Collect.Wiping.{Wiped, wiped}
 use Rattle.laws.specs.Collect.Append.{wipe-append}
 use Rattle.freeing.specs.Freeing.{CellFreed}
-use Rattle.sweep.specs.Phases.{isGarbage, garbageOf, only, Same, Lists, Freed}
+use Rattle.sweep.specs.Phases.{isGarbage, garbageOf, Same, Lists, Freed}
 
 -- one entry of a table
 pub set-as : (l : List ℕ) {i e x y : ℕ} → i ≡ e → x ≡ y → set l i x ≡ set l e y
@@ -34,23 +33,14 @@ pub lists-on : {listed : Bool} {k k′ l l′ : List ℕ} → length k′ ≡ le
 lists-on cells size a = record { room = λ is. omega (arith, a .room is); asked = λ fits. a .asked (omega arith) }
 
 module _ {k f n s : List ℕ} where
-  -- the list's end r is as it was
-  pub freed-none : (c : ℕ) {b : Bool} {l : List ℕ} {e r : ℕ} → b ≡ false → r ≡ e → Freed k f n s (only b c) k f n s l e l r
-  unfolding wipeAll
-  freed-none c {b} {l} {e} fails same = record {
-    heap = λ t q w. rw fails refl;
-    many = rw fails (omega arith);
-    listed = λ room. rw fails (ap (λ (i : ℕ). take i l) same ∙ sym (append-nil (take e l)));
-  }
-
   -- the cell's reference is written at the list's end i, if the table has room for every cell
-  pub freed-one : {k′ f′ n′ s′ : List ℕ} (c : ℕ) {b : Bool} {l l′ : List ℕ} {e i r : ℕ} → b ≡ true → CellFreed k f n s c k′ f′ n′ s′
-      → (length k ≤ length l → l′ ≡ set l i (c + 1)) → i ≡ e → e ≤ c → c < length k → r ≡ e + 1 → Freed k f n s (only b c) k′ f′ n′ s′ l e l′ r
+  pub freed-one : {k′ f′ n′ s′ : List ℕ} (c : ℕ) {l l′ : List ℕ} {e i r : ℕ} → CellFreed k f n s c k′ f′ n′ s′
+      → (length k ≤ length l → l′ ≡ set l i (c + 1)) → i ≡ e → e ≤ c → c < length k → r ≡ e + 1 → Freed k f n s (c ∷ []) k′ f′ n′ s′ l e l′ r
   unfolding wipeAll
-  freed-one c {b} {l} {e = e} passes z written at few inside next = record {
-    heap = λ t q w. rw passes (z .heap t q w);
-    many = rw passes (omega arith);
-    listed = λ room. rw passes ((λ j. take (next j) (written room j)) ∙ (λ j. take (e + 1) (set l (at j) (c + 1))) ∙ listed-one (omega arith));
+  freed-one c {l} {e = e} z written at few inside next = record {
+    heap = λ t q w. z .heap t q w;
+    many = omega arith;
+    listed = λ room. (λ j. take (next j) (written room j)) ∙ (λ j. take (e + 1) (set l (at j) (c + 1))) ∙ listed-one (omega arith);
   }
     where
       listed-one : e < length l → take (e + 1) (set l e (c + 1)) ≡ take e l ++ (suc c ∷ [])
@@ -72,7 +62,7 @@ module _ {k f n s : List ℕ} where
         ∙ ap (λ (x : List ℕ). take e l₀ ++ x) (sym (map-append suc l m));
   }
 
--- cells below c were wiped and listed where they are garbage
+-- the garbage below c was wiped and listed
 module _ {k f n s k′ f′ n′ s′ l₀ l₁ : List ℕ} {r : ℕ} (m : List ℕ) (c : ℕ) (same : Same k f n s) (a : Freed k f n s (select (isGarbage k m) c) k′ f′ n′ s′ l₀ 0 l₁ r) where
   h : Heap
   h = tables k f n s [] [] []
@@ -97,21 +87,15 @@ module _ {k f n s k′ f′ n′ s′ l₀ l₁ : List ℕ} {r : ℕ} (m : List 
     slots-size = ap (λ (g : Heap). length (g .slots)) is ∙ gone .slotsLength ∙ same .slots-size ∙ ap (λ (x : ℕ). 8 * x) (sym freed-length);
   }
 
-  kept : getD k′ c 0 ≡ getD k c 0
-  unfolding h
-  kept = ap (λ (g : Heap). getD (g .kind) c 0) is ∙ gone .kindOut c (select-new (isGarbage k m) c)
-
-  -- so the test reads what it read at first
-  pub freed-next : {k″ f″ n″ s″ l₂ : List ℕ} {from end r′ : ℕ} → Freed k′ f′ n′ s′ (only (isGarbage k′ m c) c) k″ f″ n″ s″ l₁ from l₂ r′ → from ≡ r → end ≡ r′
-      → length l₁ ≡ length l₀ → Freed k f n s (select (isGarbage k m) (c + 1)) k″ f″ n″ s″ l₀ 0 l₂ end
-  freed-next {k″} {f″} {n″} {s″} {l₂} {from} {end} {r′} b at next size =
-      let e : isGarbage k′ m c ≡ isGarbage k m c = ap (λ (x : ℕ). not (eqb x 0) && eqb (getD m c 0) 0) kept in
-      let b₁ : Freed k′ f′ n′ s′ (only (isGarbage k m c) c) k″ f″ n″ s″ l₁ r l₂ end =
-      subst (λ (y : ℕ). Freed k′ f′ n′ s′ (only (isGarbage k m c) c) k″ f″ n″ s″ l₁ r l₂ y) (sym next)
-      (subst (λ (x : ℕ). Freed k′ f′ n′ s′ (only (isGarbage k m c) c) k″ f″ n″ s″ l₁ x l₂ r′) at
-      (subst (λ (z : Bool). Freed k′ f′ n′ s′ (only z c) k″ f″ n″ s″ l₁ from l₂ r′) e b)) in
-      subst (λ (l : List ℕ). Freed k f n s l k″ f″ n″ s″ l₀ 0 l₂ end) (sym (select-next (isGarbage k m) c))
-      (freed-then (select (isGarbage k m) c) (only (isGarbage k m c) c) freed-length size a b₁)
+  -- the next garbage cell
+  pub freed-next : {k″ f″ n″ s″ l₂ : List ℕ} {from end r′ : ℕ} → isGarbage k m c ≡ true → Freed k′ f′ n′ s′ (c ∷ []) k″ f″ n″ s″ l₁ from l₂ r′ → from ≡ r → end ≡ r′
+      → length l₁ ≡ length l₀ → Freed k f n s (select (isGarbage k m) (suc c)) k″ f″ n″ s″ l₀ 0 l₂ end
+  freed-next {k″} {f″} {n″} {s″} {l₂} {from} {end} {r′} passes b at next size =
+      let b₁ : Freed k′ f′ n′ s′ (c ∷ []) k″ f″ n″ s″ l₁ r l₂ end =
+      subst (λ (y : ℕ). Freed k′ f′ n′ s′ (c ∷ []) k″ f″ n″ s″ l₁ r l₂ y) (sym next)
+      (subst (λ (x : ℕ). Freed k′ f′ n′ s′ (c ∷ []) k″ f″ n″ s″ l₁ x l₂ r′) at b) in
+      subst (λ (l : List ℕ). Freed k f n s l k″ f″ n″ s″ l₀ 0 l₂ end) (sym (select-passing (isGarbage k m) c passes))
+      (freed-then (select (isGarbage k m) c) (c ∷ []) freed-length size a b₁)
 
   -- no more cells are listed than were looked at
   pub freed-few : r ≤ c

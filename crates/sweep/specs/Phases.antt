@@ -1,22 +1,27 @@
 -- What each part of COLLECT does to the tables that it is lent: an equation with the rules' definition, whatever stands in the other tables.
 -- Assumes nothing: these are definitions.
-use Prim.Native.Nat.{ℕ, suc, _+_, _*_, _≤_, _<_}
+use Prim.Native.Nat.{ℕ, suc, _+_, _*_, _^_, _≤_, _<_}
 use mathlib.Core.List.{List, [], _∷_, _++_, map}
 use mathlib.Core.Bool.{Bool, true, not, _&&_, cond}
 use mathlib.Core.Path.{_≡_}
 use lib.Dec.{eqb}
-use lib.ListN.{length, getD, take}
+use lib.ListN.{length, getD, take, replicate}
 use Rattle.rules.specs.declared.Answer.{Answer}
 use Rattle.rules.specs.Lists.{occ, select}
 use Rattle.rules.specs.Heap.{Heap, tables, cells}
 use Rattle.rules.specs.Collect.{enqueueAll, unreachedFinalizable, keptMarks, lowerAll, unlinkAll, wipeAll, rescueAll, collect}
+use Rattle.rules.specs.Words.{bitOf, markedOf, UsedBits}
 use Rattle.rules.specs.Calls.{answers}
 use Rattle.laws.specs.Sound.But.{Fit}
+use Rattle.laws.specs.Words.Marks.{Pictured}
 
 -- ---- which cells: an unmarked object with flags 1, an unmarked used cell, a marked cell with flags 3
 
+abbrev pub isFinalizable : List ℕ → List ℕ → ℕ → Bool
+isFinalizable kind flags c = eqb (getD kind c 0) 1 && eqb (getD flags c 0) 1
+
 abbrev pub isDue : List ℕ → List ℕ → List ℕ → ℕ → Bool
-isDue kind flags marks c = (eqb (getD kind c 0) 1 && eqb (getD flags c 0) 1) && eqb (getD marks c 0) 0
+isDue kind flags marks c = isFinalizable kind flags c && eqb (getD marks c 0) 0
 
 abbrev pub isGarbage : List ℕ → List ℕ → ℕ → Bool
 isGarbage kind marks c = not (eqb (getD kind c 0) 0) && eqb (getD marks c 0) 0
@@ -38,12 +43,32 @@ rescuedOf flags marks = select (isRescued flags marks) (length flags)
 abbrev pub only : Bool → ℕ → List ℕ
 only b c = cond b (c ∷ []) []
 
+-- ---- words
+
+-- words for the used cells, and as many for the marked ones
+pub record Searchable (kind used marked : List ℕ) : Type 0 where
+  pub some : 0 < length kind
+  pub room : length kind ≤ 64 * length used
+  pub same : length marked ≡ length used
+  pub few : 64 * length used < 2 ^ 63
+  pub bits : UsedBits kind used
+
+-- only used cells are marked
+abbrev pub MarkedUsed : List ℕ → List ℕ → Type 0
+MarkedUsed kind marked = (c : ℕ) → bitOf marked c ≡ 1 → 1 ≤ getD kind c 0
+
+-- words for the used ones of n cells, whatever stands there, and for marks, all unmarked
+pub record Words (n : ℕ) (used marks : List ℕ) : Type 0 where
+  pub room : n ≤ 64 * length used
+  pub same : length (markedOf marks) ≡ length used
+  pub few : 64 * length used < 2 ^ 63
+  pub unmarked : Pictured n marks (replicate n 0)
+
 -- ---- queueing
 
 -- the tables fit, the queue has room for the cells l, and their counts may rise
-pub record QueueRoom (kind flags count queue control marks l : List ℕ) : Type 0 where
+pub record QueueRoom (kind flags count queue control l : List ℕ) : Type 0 where
   pub fit : Fit kind flags count queue control
-  pub marks-size : length marks ≡ length kind
   pub room : getD control 0 0 + length l ≤ length kind
   pub small : (c : ℕ) → getD count c 0 + occ c l < 65536
 
@@ -93,7 +118,7 @@ pub record Decided (waiting : ℕ) (flags marks flags′ : List ℕ) : Type 0 wh
 -- both markings, and the queueing between them, from marks that are all unmarked
 pub record MarkedQueued (h after : Heap) (marks : List ℕ) (r : ℕ) : Type 0 where
   pub heap : after ≡ enqueueAll h (unreachedFinalizable h)
-  pub marked : marks ≡ keptMarks h
+  pub marked : Pictured (cells h) marks (keptMarks h)
   pub many : r ≡ length (unreachedFinalizable h)
 
 -- both rounds, over the cells l

@@ -1,50 +1,32 @@
-// Which cells COLLECT queues, frees and rescues: a cell's kind, flags and mark tell.
-use marking::MARKED;
-use marking::UNMARKED;
-use marking::mark_of;
+// Which cells COLLECT queues and rescues: a cell's kind, flags and mark tell.
 use numbers::cell::Cell;
-ghost use Prim.Native.Nat.{_<_};
+use words::has_bit;
+ghost use Prim.Native.Nat.{_*_, _<_};
 ghost use mathlib.Core.Path.{_≡_};
 ghost use lib.ListN.{length};
-ghost use Rattle.sweep.specs.Phases.{isDue, isGarbage, isRescued};
+ghost use Rattle.rules.specs.Words.{bitsOf};
+ghost use Rattle.sweep.specs.Phases.{isFinalizable, isRescued};
 
-// An unmarked object whose finalizer is still to run.
-pub fn is_due(kind: &[u16], flags: &[u16], marks: &[u8], cell: Cell) -> bool
+// An object whose finalizer is still to run.
+pub fn is_finalizable(kind: &[u16], flags: &[u16], cell: Cell) -> bool
     requires { ⌜ cell .0 < length (now kind) ⌝ }
     requires { ⌜ cell .0 < length (now flags) ⌝ }
-    requires { ⌜ cell .0 < length (now marks) ⌝ }
-    ensures { λ r. ⌜ r ≡ isDue (now (kind .entry)) (now (flags .entry)) (now (marks .entry)) (cell .0) ⌝ }
+    ensures { λ r. ⌜ r ≡ isFinalizable (now (kind .entry)) (now (flags .entry)) (cell .0) ⌝ }
 {
     if kind[cell.index()] != 1 {
         return false;
     }
-    if flags[cell.index()] != 1 {
-        return false;
-    }
-    mark_of(marks, cell) == UNMARKED
-}
-
-// An unmarked used cell.
-pub fn is_garbage(kind: &[u16], marks: &[u8], cell: Cell) -> bool
-    requires { ⌜ cell .0 < length (now kind) ⌝ }
-    requires { ⌜ cell .0 < length (now marks) ⌝ }
-    ensures { λ r. ⌜ r ≡ isGarbage (now (kind .entry)) (now (marks .entry)) (cell .0) ⌝ }
-{
-    // the mark first: in a heap in use most cells are marked
-    if mark_of(marks, cell) != UNMARKED {
-        return false;
-    }
-    kind[cell.index()] != 0
+    flags[cell.index()] == 1
 }
 
 // A marked cell whose finalizer has run: it may run again.
-pub fn is_rescued(flags: &[u16], marks: &[u8], cell: Cell) -> bool
+pub fn is_rescued(flags: &[u16], marked: &[u64], cell: Cell) -> bool
     requires { ⌜ cell .0 < length (now flags) ⌝ }
-    requires { ⌜ cell .0 < length (now marks) ⌝ }
-    ensures { λ r. ⌜ r ≡ isRescued (now (flags .entry)) (now (marks .entry)) (cell .0) ⌝ }
+    requires { ⌜ cell .0 < 64 * length (now marked) ⌝ }
+    ensures { λ r. ⌜ r ≡ isRescued (now (flags .entry)) (bitsOf (length (now (flags .entry))) (now (marked .entry))) (cell .0) ⌝ }
 {
     if flags[cell.index()] != 3 {
         return false;
     }
-    mark_of(marks, cell) == MARKED
+    has_bit(marked, cell)
 }

@@ -1,11 +1,14 @@
 // Unmarked objects with a finalizer to run join the queue.
-use crate::cells::is_due;
+use crate::cells::is_finalizable;
 use numbers::cell::Cell;
-use numbers::cell::CellNumber;
+use words::search::Found;
+use words::search::from_first;
+use words::search::next_open;
 ghost use Prim.Native.Nat.{_+_, _<_};
 ghost use mathlib.Core.Path.{_≡_};
 ghost use lib.ListN.{length, getD, set};
-ghost use Rattle.sweep.specs.Phases.{isDue, dueOf, only, QueueRoom, Queued};
+ghost use Rattle.rules.specs.Words.{bitsOf};
+ghost use Rattle.sweep.specs.Phases.{isFinalizable, dueOf, only, Searchable, QueueRoom, Queued};
 
 // A cell joins the end of the queue.
 fn enqueue(queue: &mut [u16], control: &mut [u16], cell: Cell)
@@ -20,22 +23,21 @@ fn enqueue(queue: &mut [u16], control: &mut [u16], cell: Cell)
     control[0] = end + 1;
 }
 
-// A cell that is due joins the queue, its count rising by 1; answers how many joined, 0 or 1.
+// A cell joins the queue if its finalizer is still to run, its count rising by 1; answers how many joined, 0 or 1.
 fn queue_cell(
     kind: &[u16],
     flags: &[u16],
     count: &mut [u16],
     queue: &mut [u16],
     control: &mut [u16],
-    marks: &[u8],
     cell: Cell,
 ) -> u16
     requires { ⌜ cell .0 < length (now kind) ⌝ }
-    requires { ⌜ QueueRoom (now kind) (now flags) (now count) (now queue) (now control) (now marks) (only (isDue (now kind) (now flags) (now marks) (cell .0)) (cell .0)) ⌝ }
+    requires { ⌜ QueueRoom (now kind) (now flags) (now count) (now queue) (now control) (only (isFinalizable (now kind) (now flags) (cell .0)) (cell .0)) ⌝ }
     ensures { λ r. ⌜ Queued (now (kind .entry)) (now (flags .entry)) (now (count .entry)) (now (queue .entry)) (now (control .entry))
-        (only (isDue (now (kind .entry)) (now (flags .entry)) (now (marks .entry)) (cell .0)) (cell .0)) (now (count .exit)) (now (queue .exit)) (now (control .exit)) r ⌝ }
+        (only (isFinalizable (now (kind .entry)) (now (flags .entry)) (cell .0)) (cell .0)) (now (count .exit)) (now (queue .exit)) (now (control .exit)) r ⌝ }
 {
-    if !is_due(kind, flags, marks, cell) {
+    if !is_finalizable(kind, flags, cell) {
         return 0;
     }
     enqueue(queue, control, cell);
@@ -44,25 +46,26 @@ fn queue_cell(
     1
 }
 
-// Every cell that is due joins the queue, in order of cell number; answers how many.
+// Every unmarked cell whose finalizer is still to run joins the queue, in order of cell number; answers how many.
 pub fn queue_unmarked(
     kind: &[u16],
     flags: &[u16],
     count: &mut [u16],
     queue: &mut [u16],
     control: &mut [u16],
-    marks: &[u8],
+    used: &[u64],
+    marked: &[u64],
 ) -> u16
-    requires { ⌜ QueueRoom (now kind) (now flags) (now count) (now queue) (now control) (now marks) (dueOf (now kind) (now flags) (now marks)) ⌝ }
+    requires { ⌜ Searchable (now kind) (now used) (now marked) ⌝ }
+    requires { ⌜ QueueRoom (now kind) (now flags) (now count) (now queue) (now control) (dueOf (now kind) (now flags) (bitsOf (length (now kind)) (now marked))) ⌝ }
     ensures { λ r. ⌜ Queued (now (kind .entry)) (now (flags .entry)) (now (count .entry)) (now (queue .entry)) (now (control .entry))
-        (dueOf (now (kind .entry)) (now (flags .entry)) (now (marks .entry))) (now (count .exit)) (now (queue .exit)) (now (control .exit)) r ⌝ }
+        (dueOf (now (kind .entry)) (now (flags .entry)) (bitsOf (length (now (kind .entry))) (now (marked .entry)))) (now (count .exit)) (now (queue .exit)) (now (control .exit)) r ⌝ }
 {
     let mut queued = 0;
-    for c in 0..kind.len() {
-        let CellNumber::Is(cell) = Cell::of(c, kind.len()) else {
-            return queued;
-        };
-        queued += queue_cell(kind, flags, count, queue, control, marks, cell);
+    let mut found = next_open(used, marked, kind.len(), from_first(used, marked));
+    while let Found::Is(cell, rest) = found {
+        queued += queue_cell(kind, flags, count, queue, control, cell);
+        found = next_open(used, marked, kind.len(), rest);
     }
     queued
 }

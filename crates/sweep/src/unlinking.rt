@@ -1,16 +1,18 @@
 // The first round: references of unmarked cells come off their targets' counts. Each of them is counted, so that no count is met at zero.
-use crate::cells::is_garbage;
 use freeing::is_plain;
 use numbers::cell::Cell;
-use numbers::cell::CellNumber;
+use words::search::Found;
+use words::search::from_first;
+use words::search::next_open;
 ghost use Prim.Native.Nat.{_+_, _*_, _≤_, _<_};
 ghost use mathlib.Core.List.{[], _∷_};
 ghost use mathlib.Core.Path.{_≡_};
 ghost use lib.ListN.{length};
 ghost use Rattle.rules.specs.Heap.{slotsOf};
+ghost use Rattle.rules.specs.Words.{bitsOf};
 ghost use Rattle.laws.specs.Sound.But.{PlainSlots};
 ghost use Rattle.laws.specs.Collect.Unlinking.{Covered, SlotsCovered};
-ghost use Rattle.sweep.specs.Phases.{isGarbage, garbageOf, only, TakenOff, Unlinked};
+ghost use Rattle.sweep.specs.Phases.{garbageOf, Searchable, TakenOff, Unlinked};
 
 // A reference comes off its target's count, with no queueing and no cascade.
 fn lower(count: &mut [u16], reference: u16)
@@ -35,17 +37,14 @@ fn lower_targets(count: &mut [u16], slots: &[u16], cell: Cell)
     }
 }
 
-// The slots of a cell come off, if it is garbage.
-fn unlink_cell(kind: &[u16], count: &mut [u16], slots: &[u16], marks: &[u8], cell: Cell)
-    requires { ⌜ (cell .0 < length (now kind)) × (cell .0 < length (now marks)) ⌝ }
+// The slots of a cell come off.
+fn unlink_cell(kind: &[u16], count: &mut [u16], slots: &[u16], cell: Cell)
+    requires { ⌜ cell .0 < length (now kind) ⌝ }
     requires { ⌜ 8 * cell .0 + 8 ≤ length (now slots) ⌝ }
     requires { ⌜ PlainSlots (now kind) (now slots) ⌝ }
-    requires { ⌜ SlotsCovered (now slots) (now count) (only (isGarbage (now kind) (now marks) (cell .0)) (cell .0)) ⌝ }
-    ensures { λ _. ⌜ Unlinked (now (slots .entry)) (now (count .entry)) (only (isGarbage (now (kind .entry)) (now (marks .entry)) (cell .0)) (cell .0)) (now (count .exit)) ⌝ }
+    requires { ⌜ SlotsCovered (now slots) (now count) (cell .0 ∷ []) ⌝ }
+    ensures { λ _. ⌜ Unlinked (now (slots .entry)) (now (count .entry)) (cell .0 ∷ []) (now (count .exit)) ⌝ }
 {
-    if !is_garbage(kind, marks, cell) {
-        return;
-    }
     // a string or buffer has nothing in its slots
     if is_plain(kind[cell.index()]) {
         return;
@@ -54,16 +53,15 @@ fn unlink_cell(kind: &[u16], count: &mut [u16], slots: &[u16], marks: &[u8], cel
 }
 
 // The slots of all garbage come off.
-pub fn unlink_unmarked(kind: &[u16], count: &mut [u16], slots: &[u16], marks: &[u8])
-    requires { ⌜ (length (now marks) ≡ length (now kind)) × (length (now slots) ≡ 8 * length (now kind)) ⌝ }
+pub fn unlink_unmarked(kind: &[u16], count: &mut [u16], slots: &[u16], used: &[u64], marked: &[u64])
+    requires { ⌜ Searchable (now kind) (now used) (now marked) × (length (now slots) ≡ 8 * length (now kind)) ⌝ }
     requires { ⌜ PlainSlots (now kind) (now slots) ⌝ }
-    requires { ⌜ SlotsCovered (now slots) (now count) (garbageOf (now kind) (now marks)) ⌝ }
-    ensures { λ _. ⌜ Unlinked (now (slots .entry)) (now (count .entry)) (garbageOf (now (kind .entry)) (now (marks .entry))) (now (count .exit)) ⌝ }
+    requires { ⌜ SlotsCovered (now slots) (now count) (garbageOf (now kind) (bitsOf (length (now kind)) (now marked))) ⌝ }
+    ensures { λ _. ⌜ Unlinked (now (slots .entry)) (now (count .entry)) (garbageOf (now (kind .entry)) (bitsOf (length (now (kind .entry))) (now (marked .entry)))) (now (count .exit)) ⌝ }
 {
-    for c in 0..kind.len() {
-        let CellNumber::Is(cell) = Cell::of(c, kind.len()) else {
-            return;
-        };
-        unlink_cell(kind, count, slots, marks, cell);
+    let mut found = next_open(used, marked, kind.len(), from_first(used, marked));
+    while let Found::Is(cell, rest) = found {
+        unlink_cell(kind, count, slots, cell);
+        found = next_open(used, marked, kind.len(), rest);
     }
 }

@@ -5,7 +5,7 @@ use native.Mathlib.Omega.{arith}
 use native.Mathlib.Decide.{decLt}
 use mathlib.Core.List.{List, [], _∷_, _++_, map}
 use mathlib.Core.Bool.{Bool, true, not, _&&_}
-use mathlib.Core.Path.{_≡_, refl, _∙_, ap}
+use mathlib.Core.Path.{_≡_, refl, ap}
 use mathlib.Core.Logic.{_≢_, by-cases}
 use lib.Dec.{eqb}
 use lib.ListN.{length, getD, length-append, length-map}
@@ -23,10 +23,10 @@ use Rattle.laws.specs.Lists.Occ.{Stands, occ-append, occ-find, occ-refs,
 use Rattle.laws.specs.Lists.Pigeonhole.{pigeonhole, once-cons, below-cons}
 use Rattle.laws.specs.Lists.Select.{select-only, select-once, select-in}
 use Rattle.laws.specs.Marking.Marks.{Names, Held, Bits, Within, ClosedMarks}
-use Rattle.laws.specs.Marking.Closure.{closure-length, closure-keeps, closure-lists, closure-settled, closure-least}
+use Rattle.laws.specs.Marking.Closure.{closure-keeps, closure-lists, closure-settled, closure-least}
 use Rattle.laws.specs.Sound.But.{SoundBut}
 use Rattle.laws.specs.Release.Decref.{finalizable-kind, finalizable-flags}
-use Rattle.laws.specs.Reach.Used.{holds-occ}
+use Rattle.laws.specs.Reach.Used.{holds-occ, link-used, reached-used}
 use Rattle.laws.specs.Reach.Marked.{link-names, names-link, slots-within, reached-length, reached-settled, reached-only, reached-held}
 
 -- marked in the end
@@ -63,10 +63,6 @@ module _ (h : Heap) (s : SoundBut h []) where
   names-due : (c : ℕ) → Names (map suc (unreachedFinalizable h)) c → 1 ≤ occ c (unreachedFinalizable h)
   names-due c n = omega (arith, holds-occ (map suc (unreachedFinalizable h)) (n .0) c (n .1), occ-refs c (unreachedFinalizable h))
 
-  pub kept-length : length (keptMarks h) ≡ cells h
-  unfolding keptMarks
-  kept-length = closure-length (h .slots) (reachedMarks h) (map suc (unreachedFinalizable h)) ∙ reached-length h s
-
   kept-settled : ClosedMarks (h .slots) (keptMarks h)
   unfolding keptMarks
   kept-settled = closure-settled (h .slots) (reachedMarks h) (map suc (unreachedFinalizable h)) (rw (reached-length h s) (slots-within h s)) (reached-settled h s .bits)
@@ -101,6 +97,10 @@ module _ (h : Heap) (s : SoundBut h []) where
   live-least along reached due =
       closure-least (h .slots) (reachedMarks h) (map suc (unreachedFinalizable h)) (λ p c x n. along p c x (names-link (h .slots) p c n))
       (λ c m. reached c (reached-only h s c m)) (λ c n. due c (names-due c n))
+
+  -- all that stays is in use
+  pub live-used : (c : ℕ) → Live h c → Used h c
+  live-used = live-least (λ p c u k. link-used h [] s p c k) (reached-used h [] s) (λ c b. omega (arith, due-only c b .object))
 
   -- ---- the garbage
 

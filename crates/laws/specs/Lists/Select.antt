@@ -83,6 +83,21 @@ pub select-next : (p : ℕ → Bool) (n : ℕ) → select p (n + 1) ≡ select p
 unfolding select
 select-next p n = rw add-one refl
 
+pub select-passing : (p : ℕ → Bool) (n : ℕ) → p n ≡ true → select p (suc n) ≡ select p n ++ (n ∷ [])
+unfolding select
+select-passing p n e = rw e refl
+
+-- numbers that fail in between
+pub select-skip : (p : ℕ → Bool) (from r : ℕ) → from ≤ r → ((d : ℕ) → from ≤ d → d < r → p d ≡ false) → select p r ≡ select p from
+unfolding select
+select-skip p from zero l none = let e : from ≡ 0 = omega arith in rw e refl
+select-skip p from (suc r) l none = elim (ℕ-discrete from (suc r)) [
+  | yes e ↦ rw e refl
+  | no f ↦
+      rw (none r (omega arith) (omega arith))
+      (append-nil (select p r) ∙ select-skip p from r (omega arith) (λ d a b. none d a (omega arith)))
+]
+
 -- the numbers to come are not among those passed
 pub select-new : (p : ℕ → Bool) (n : ℕ) → occ n (select p n) ≡ 0
 select-new p n = none-of (occ n (select p n)) (λ o. omega (arith, select-only p n n o))

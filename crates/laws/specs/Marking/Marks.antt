@@ -4,9 +4,11 @@ use Prim.Native.Nat.{ℕ, _*_, _≤_, _<_}
 use mathlib.Core.List.{List}
 use mathlib.Core.Logic.{_⊎_}
 use mathlib.Core.Path.{_≡_}
+use lib.Dec.{eqb}
 use lib.ListN.{length, getD}
 use Rattle.rules.specs.Heap.{slotsOf}
 use Rattle.rules.specs.Reach.{Holds}
+use Rattle.rules.specs.Words.{LowestFrom}
 
 -- ---- references
 
@@ -64,10 +66,8 @@ abbrev pub NoneNoted : List ℕ → Type 0
 NoneNoted m = (d : ℕ) → getD m d 0 ≡ 2 → ⊥
 
 -- r is the first noted cell from lo up to hi, or hi
-pub record FirstNoted (m : List ℕ) (lo hi r : ℕ) : Type 0 where
-  pub within : (lo ≤ r) × (r ≤ hi)
-  pub found : r < hi → getD m r 0 ≡ 2
-  pub first : (d : ℕ) → lo ≤ d → d < r → getD m d 0 ≡ 2 → ⊥
+abbrev pub FirstNoted : List ℕ → ℕ → ℕ → ℕ → Type 0
+FirstNoted m = LowestFrom (λ c. eqb (getD m c 0) 2)
 
 -- r is a noted cell, or the number of cells and none is noted
 pub record NextNoted (m : List ℕ) (r : ℕ) : Type 0 where

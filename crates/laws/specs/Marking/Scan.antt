@@ -1,55 +1,36 @@
 -- Laws of the scan: it serves every noted cell, and leaves none noted. So marking to any depth and then scanning marks what `markFrom` marks.
 -- Assumes nothing.
-use Prim.Native.Nat.{ℕ, zero, suc, _+_, _-_, _≤_, _<_}
-use native.Mathlib.Decide.{decLt, ℕ-discrete}
+use Prim.Native.Nat.{ℕ, zero, suc, _-_, _≤_, _<_}
+use native.Mathlib.Decide.{decLt}
 use native.Mathlib.Omega.{arith}
 use mathlib.Core.List.{List, [], _++_}
-use mathlib.Core.Bool.{Bool, true, false, cond}
 use mathlib.Core.Logic.{⊎-elim}
 use mathlib.Core.Path.{_≡_, refl, sym, ap, _∙_}
-use borrow.Author.Tests.{lt-ltb, le-ltb, eqb-true, eqb-false}
+use borrow.Author.Tests.{lt-ltb, le-ltb, ne-eqb, eqb-true, eqb-false}
 use lib.Arith.{lt-of-le-ne}
 use lib.Dec.{eqb}
 use lib.ListN.{length, getD}
 use Rattle.rules.specs.Lists.{occ}
 use Rattle.rules.specs.Marking.{markFrom}
-use Rattle.rules.specs.Depth.{markCell, markSlot, markTable, firstFrom, notedBetween, firstOf, nextNoted, scan, scanAll}
+use Rattle.rules.specs.Depth.{markCell, markSlot, markTable, notedBetween, firstOf, nextNoted, scan, scanAll}
 use Rattle.laws.specs.Lists.Tables.{inside}
 use Rattle.laws.specs.Marking.Marks.{Within, Slots, Held, Bits, Closed, ClosedMarks, Marked, NoneNoted, FirstNoted, NextNoted}
 use Rattle.laws.specs.Lists.Occ.{occ-room}
+use Rattle.laws.specs.Words.Search.{lowest-from, first-law, first-only}
 use Rattle.laws.specs.Marking.Closure.{within-append, closure-settled, closure-keeps, closure-lists, closure-unique}
 use Rattle.laws.specs.Marking.Steps.{marked-none, marked-scanned, each-append, table-step, table-length, turn-length, turn-marked, turn-less}
 
 -- ---- the next noted cell
 
-from-noted : (m : List ℕ) (lo k : ℕ) → FirstNoted m lo (lo + k) (firstFrom (λ c. eqb (getD m c 0) 2) lo k)
-unfolding firstFrom
-from-noted m lo zero = record { within = omega arith; found = λ h. absurd (omega arith); first = λ d a b. absurd (omega arith) }
-from-noted m lo (suc k) = go (eqb (getD m lo 0) 2) refl (firstFrom (λ c. eqb (getD m c 0) 2) (suc lo) k) (from-noted m (suc lo) k)
-  where
-    go : (b : Bool) → eqb (getD m lo 0) 2 ≡ b → (r : ℕ) → FirstNoted m (suc lo) (suc lo + k) r → FirstNoted m lo (lo + suc k) (cond b lo r)
-    go true e r rest = record { within = omega arith; found = λ _. eqb-true (getD m lo 0) 2 e; first = λ d a b. absurd (omega arith) }
-    go false e r rest = record {
-      within = omega (arith, rest .within);
-      found = λ h. rest .found (omega arith);
-      first = λ d a b. elim (ℕ-discrete d lo) [ yes z ↦ rw z (eqb-false (getD m lo 0) 2 e) | no f ↦ rest .first d (omega (arith, f)) b ];
-    }
-
 pub noted-law : (m : List ℕ) (lo hi : ℕ) → lo ≤ hi → FirstNoted m lo hi (notedBetween m lo hi)
 unfolding notedBetween
-noted-law m lo hi h = let e : lo + (hi - lo) ≡ hi = omega arith in rw e at (from-noted m lo (hi - lo))
+noted-law m lo hi h = first-law (λ c. eqb (getD m c 0) 2) lo hi h
 
--- there is only one first
-pub first-noted : (m : List ℕ) (lo hi r : ℕ) → FirstNoted m lo hi r → r ≡ notedBetween m lo hi
-first-noted m lo hi r f =
-    let g = noted-law m lo hi (omega (arith, f .within)) in
-    elim (decLt r (notedBetween m lo hi)) [
-      | yes l ↦ absurd (g .first r (f .within .0) l (f .found (omega (arith, g .within))))
-      | no a ↦ elim (decLt (notedBetween m lo hi) r) [ yes l ↦ absurd (f .first (notedBetween m lo hi) (g .within .0) l (g .found (omega (arith, f .within)))) | no b ↦ omega arith ]
-    ]
+first-noted : (m : List ℕ) (lo hi r : ℕ) → FirstNoted m lo hi r → r ≡ notedBetween m lo hi
+first-noted m lo hi r f = first-only f (noted-law m lo hi (omega (arith, f .within)))
 
 -- what the scan serves next, by the two searches
-module _ {m : List ℕ} {from r : ℕ} (a : FirstNoted m from (length m) r) where
+module _ (m : List ℕ) {from r : ℕ} (a : FirstNoted m from (length m) r) where
   pub next-after : r < length m → r ≡ nextNoted m from
   unfolding nextNoted firstOf
   next-after h = rw (← first-noted m from (length m) r a, lt-ltb r (length m) h) refl
@@ -68,18 +49,30 @@ pub next-first : (m : List ℕ) → notedBetween m 0 (length m) ≡ nextNoted m 
 next-first m =
     let a = noted-law m 0 (length m) (omega arith) in
     elim (decLt (notedBetween m 0 (length m)) (length m)) [
-      | yes l ↦ next-after a l
+      | yes l ↦ next-after m a l
       | no f ↦
           let e : notedBetween m 0 (length m) ≡ length m = omega (arith, a .within) in
-          e ∙ next-none a (noted-law m 0 0 (omega arith)) (omega arith) (omega arith)
+          e ∙ next-none m a (noted-law m 0 0 (omega arith)) (omega arith) (omega arith)
     ]
 
 -- none from f on, and none below f
-none-noted : {m : List ℕ} {f r r′ : ℕ} → FirstNoted m f (length m) r → length m ≤ r → FirstNoted m 0 f r′ → f ≤ r′ → NoneNoted m
-none-noted {m} {f} a h b h′ d e = elim (decLt d f) [
-  | yes l ↦ b .first d (omega arith) (omega arith) e
-  | no g ↦ a .first d (omega arith) (omega (arith, inside m d (omega arith))) e
+none-noted : (m : List ℕ) {f r r′ : ℕ} → FirstNoted m f (length m) r → length m ≤ r → FirstNoted m 0 f r′ → f ≤ r′ → NoneNoted m
+none-noted m {f} a h b h′ d e = elim (decLt d f) [
+  | yes l ↦ eqb-false (getD m d 0) 2 (b .lowest d (omega arith) (omega arith)) e
+  | no g ↦ eqb-false (getD m d 0) 2 (a .lowest d (omega arith) (omega (arith, inside m d (omega arith)))) e
 ]
+
+-- where none is noted from `from` on, a search of all cells finds the same as one up to `from`
+pub next-round : (m : List ℕ) (from : ℕ) → from ≤ length m → length m ≤ notedBetween m from (length m) → notedBetween m 0 (length m) ≡ nextNoted m from
+next-round m from h past =
+    let a = noted-law m from (length m) h in
+    let b = noted-law m 0 from (omega arith) in
+    elim (decLt (notedBetween m 0 from) from) [
+      | yes l ↦ sym (first-noted m 0 (length m) (notedBetween m 0 from) (lowest-from (omega (arith, b .within)) (λ _. b .passes l) (b .lowest))) ∙ next-before m a b past l
+      | no f ↦
+          let none = none-noted m a past b (omega arith) in
+          sym (first-noted m 0 (length m) (length m) (lowest-from (omega arith) (λ l. absurd (omega arith)) (λ d _ _. ne-eqb (getD m d 0) 2 (none d)))) ∙ next-none m a b past (omega arith)
+    ]
 
 -- a noted cell, or there is none
 pub next-law : (m : List ℕ) (from : ℕ) → from ≤ length m → NextNoted m (nextNoted m from)
@@ -87,10 +80,10 @@ next-law m from h =
     let a : FirstNoted m from (length m) (notedBetween m from (length m)) = noted-law m from (length m) h in
     let b : FirstNoted m 0 from (notedBetween m 0 from) = noted-law m 0 from (omega arith) in
     elim (decLt (notedBetween m from (length m)) (length m)) [
-      | yes l ↦ rw (← next-after a l) (record { within = omega arith; found = a .found; none = λ g. absurd (omega arith) })
+      | yes l ↦ rw (← next-after m a l) (record { within = omega arith; found = λ x. eqb-true (getD m (notedBetween m from (length m)) 0) 2 (a .passes x); none = λ g. absurd (omega arith) })
       | no f ↦ elim (decLt (notedBetween m 0 from) from) [
-        | yes l ↦ rw (← next-before a b (omega arith) l) (record { within = omega arith; found = λ _. b .found l; none = λ g. absurd (omega arith) })
-        | no g ↦ rw (← next-none a b (omega arith) (omega arith)) (record { within = omega arith; found = λ x. absurd (omega arith); none = λ _. none-noted a (omega arith) b (omega arith) })
+        | yes l ↦ rw (← next-before m a b (omega arith) l) (record { within = omega arith; found = λ _. eqb-true (getD m (notedBetween m 0 from) 0) 2 (b .passes l); none = λ g. absurd (omega arith) })
+        | no g ↦ rw (← next-none m a b (omega arith) (omega arith)) (record { within = omega arith; found = λ x. absurd (omega arith); none = λ _. none-noted m a (omega arith) b (omega arith) })
       ]
     ]
 

@@ -9,7 +9,10 @@ use lib.Dec.{lit≤}
 use lib.ListN.{length, getD, take}
 use Rattle.rules.specs.Heap.{slotsOf}
 use Rattle.rules.specs.Depth.{each, markSlot, markCell}
+use Rattle.rules.specs.Words.{marksOf}
 use Rattle.laws.specs.Marking.Steps.{each-none, each-slot, each-slots, cell-noted, cell-deep, slot-cell, slot-none, mark-named}
+use Rattle.laws.specs.Words.Marks.{Pictured}
+use Rattle.marking.specs.Steps.{cellsOf}
 use borrow.Fn.Kinds.{In}
 use borrow.Fn.PlainCycle.{Measures, is, falls, and}
 use Rattle.marking.proofs.mark_cell.Reads as mark-cell
@@ -68,7 +71,8 @@ mark-slot-claims t = (
 
 abbrev mark-cell-Inv-loop : mark-cell-lts.InvT-loop
 mark-cell-Inv-loop slots marks₀ cell depth k₀ marks k =
-    (k ≤ 8) × (length marks ≡ length marks₀) × (marks ≡ each (markSlot (depth - 1) slots) marks₀ (take k (slotsOf slots (cell .0))))
+    (k ≤ 8) × (length marks ≡ length marks₀)
+    × Pictured (cellsOf slots) marks (each (markSlot (depth - 1) slots) (marksOf (cellsOf slots) marks₀) (take k (slotsOf slots (cell .0))))
 
 abbrev mark-cell-μ-loop : mark-cell-lts.MeasureT-loop
 mark-cell-μ-loop slots marks₀ cell depth k₀ marks k = 8 - k
@@ -76,13 +80,23 @@ mark-cell-μ-loop slots marks₀ cell depth k₀ marks k = 8 - k
 -- t is the member's own measure
 module _ (t : ℕ) where
   mark-cell-set-marked-requires : mark-cell-lts.Need-set-marked-requires (mark-cell-claims t) (mark-cell-at t) mark-cell.Post mark-cell-Inv-loop mark-cell-μ-loop
-  mark-cell-set-marked-requires c κs = search needs
+  mark-cell-set-marked-requires c κs =
+      let entry = c .before .before .before in
+      omega (arith, entry .pre .1 .1 .0 .room)
 
   mark-cell-loop-holds : mark-cell-lts.Need-loop-holds (mark-cell-claims t) (mark-cell-at t) mark-cell.Post mark-cell-Inv-loop mark-cell-μ-loop
   mark-cell-loop-holds c =
       let entry = c .before .before .before .before .before .before in
-      let step : List ℕ → ℕ → List ℕ = markSlot (entry .args .depth - 1) (entry .args .slots .now) in
-      (lit≤ tt, refl, each-none step (c .before .before .set-marked .last .0) (slotsOf (entry .args .slots .now) (entry .args .cell .0)))
+      let slots = entry .args .slots .now in
+      let set-marked = c .before .before .set-marked in
+      let step : List ℕ → ℕ → List ℕ = markSlot (entry .args .depth - 1) slots in (
+        lit≤ tt,
+        refl,
+        record {
+          fits = set-marked .ensures (cellsOf slots) (entry .pre .1 .1 .0) (entry .pre .1 .1 .1 .0) .fits;
+          marks = each-none step (marksOf (cellsOf slots) (set-marked .last .0)) (slotsOf slots (entry .args .cell .0));
+        },
+      )
 
   mark-cell-of-requires : mark-cell-lts.Need-of-requires (mark-cell-claims t) (mark-cell-at t) mark-cell.Post mark-cell-Inv-loop mark-cell-μ-loop
   mark-cell-of-requires c κs = search needs
@@ -106,9 +120,8 @@ module _ (t : ℕ) where
   mark-cell-mark-slot-requires c κs =
       let entry = c .before .before .before .before .before .before .before .before .before .before .before .before .before in
       let loop = c .before .before .before .before .before .before .loop in
-      let same : length (loop .marks) ≡ length (entry .args .marks .now) = loop .inv .1 ∙ c .before .before .before .before .before .before .before .before .before .set-marked .kept .0 in
       let is = rw (c .before .before .slot .given .1) at (c .before .before .before .before .of .ensures) in
-      (omega arith, (rw same (entry .pre .1 .0), (omega arith, omega arith)))
+      (omega arith, (entry .pre .1 .0, (loop .inv .2 .fits, (entry .pre .1 .1 .1 .0, omega arith))))
 
   mark-cell-add-k : mark-cell-lts.Need-add-k (mark-cell-claims t) (mark-cell-at t) mark-cell.Post mark-cell-Inv-loop mark-cell-μ-loop
   mark-cell-add-k c = search needs
@@ -121,6 +134,7 @@ module _ (t : ℕ) where
       let entry = c .before .before .before .before .before .before .before .before .before .before .before .before .before .before .before .before in
       let cell = entry .args .cell .0 in
       let slots = entry .args .slots .now in
+      let n = cellsOf slots in
       let loop = c .before .before .before .before .before .before .before .before .before .loop in
       let set-marked = c .before .before .before .before .before .before .before .before .before .before .before .before .set-marked in
       let mark-slot = c .before .before .mark-slot in
@@ -128,9 +142,12 @@ module _ (t : ℕ) where
       let step : List ℕ → ℕ → List ℕ = markSlot (entry .args .depth - 1) slots in (
         omega arith,
         mark-slot .kept .1 .0 ∙ loop .inv .1,
-        mark-slot .ensures ∙ ap (λ (j : ℕ). step (loop .marks) (getD slots (8 * cell + j) 0)) (is .0)
-            ∙ ap (λ (m : List ℕ). step m (getD slots (8 * cell + loop .k) 0)) (loop .inv .2)
-            ∙ each-slot (length (entry .args .marks .now)) cell (entry .pre .1 .0) (entry .pre .1 .1 .0) step (set-marked .last .0) (loop .k) (omega arith),
+        record {
+          fits = mark-slot .ensures .fits;
+          marks = mark-slot .ensures .marks ∙ ap (λ (j : ℕ). step (marksOf n (loop .marks)) (getD slots (8 * cell + j) 0)) (is .0)
+              ∙ ap (λ (m : List ℕ). step m (getD slots (8 * cell + loop .k) 0)) (loop .inv .2 .marks)
+              ∙ each-slot n cell (entry .pre .1 .0) (entry .pre .1 .1 .1 .0) step (marksOf n (set-marked .last .0)) (loop .k) (omega arith);
+        },
       )
 
   mark-cell-same-length-2 : mark-cell-lts.Need-same-length-2 (mark-cell-claims t) (mark-cell-at t) mark-cell.Post mark-cell-Inv-loop mark-cell-μ-loop
@@ -141,13 +158,18 @@ module _ (t : ℕ) where
       let entry = c .before .before .before .before .before .before .before .before in
       let cell = entry .args .cell .0 in
       let slots = entry .args .slots .now in
-      let marks = entry .args .marks .now in
+      let n = cellsOf slots in
       let loop = c .before .loop in
       let set-marked = c .before .before .before .before .set-marked in
+      let set = set-marked .ensures n (entry .pre .1 .1 .0) (entry .pre .1 .1 .1 .0) in
       let step : List ℕ → ℕ → List ℕ = markSlot (entry .args .depth - 1) slots in
-      loop .inv .2 ∙ each-slots (length marks) cell (entry .pre .1 .0) (entry .pre .1 .1 .0) step (set-marked .last .0) (loop .k) (omega arith)
-      ∙ ap (λ (m : List ℕ). each step m (slotsOf slots cell)) (set-marked .ensures)
-      ∙ sym (cell-deep slots marks cell (entry .args .depth) (λ e. omega arith))
+      record {
+        fits = loop .inv .2 .fits;
+        marks = loop .inv .2 .marks
+            ∙ each-slots n cell (entry .pre .1 .0) (entry .pre .1 .1 .1 .0) step (marksOf n (set-marked .last .0)) (loop .k) (omega arith)
+            ∙ ap (λ (m : List ℕ). each step m (slotsOf slots cell)) (set .marks)
+            ∙ sym (cell-deep slots (marksOf n (entry .args .marks .now)) cell (entry .args .depth) (λ e. omega arith));
+      }
 
   mark-slot-index-requires : mark-slot-lts.Need-index-requires (mark-slot-claims t) (mark-slot-at t) mark-slot.Post
   mark-slot-index-requires c κs = search needs
@@ -172,7 +194,7 @@ module _ (t : ℕ) where
       let entry = c .before .before .before .before .before .before in
       let index = c .before .before .before .index in
       let at = 8 * index .result + c .before .before .index2 .result in
-      omega (arith, entry .pre .1 .0 .within at)
+      omega (arith, entry .pre .1 .0 .within at, entry .pre .1 .1 .0 .room)
 
   mark-slot-note-requires : mark-slot-lts.Need-note-requires (mark-slot-claims t) (mark-slot-at t) mark-slot.Post
   mark-slot-note-requires c κs =
@@ -180,8 +202,10 @@ module _ (t : ℕ) where
       let index = c .before .before .before .before .before .before .before .index in
       let at = 8 * index .result + c .before .before .before .before .before .before .index2 .result in
       let to-mark = c .before .before .before .to-mark in
-      let named = mark-named (entry .args .marks .now) (getD (entry .args .slots .now) at 0) (sym (to-mark .ensures) ∙ c .before .before .if1 .taken) in
-      (named .0, omega (arith, entry .pre .1 .0 .within at))
+      let n = cellsOf (entry .args .slots .now) in
+      let asked = to-mark .ensures n (entry .pre .1 .0 .within at) in
+      let named = mark-named (marksOf n (entry .args .marks .now)) (getD (entry .args .slots .now) at 0) (sym asked ∙ c .before .before .if1 .taken) in
+      (named .0, omega (arith, entry .pre .1 .0 .within at, entry .pre .1 .1 .0 .room))
 
   mark-slot-same-length : mark-slot-lts.Need-same-length (mark-slot-claims t) (mark-slot-at t) mark-slot.Post
   mark-slot-same-length c = c .before .before .note .kept .0
@@ -190,17 +214,24 @@ module _ (t : ℕ) where
   mark-slot-returns c =
       let entry = c .before .before .before .before .before .before .before .before .before .before .before .before .before in
       let slots = entry .args .slots .now in
-      let marks = entry .args .marks .now in
+      let n = cellsOf slots in
+      let m = marksOf n (entry .args .marks .now) in
       let depth = entry .args .depth in
       let index = c .before .before .before .before .before .before .before .before .before .before .index in
       let at = 8 * index .result + c .before .before .before .before .before .before .before .before .before .index2 .result in
       let reference = getD slots at 0 in
       let at-slot : at ≡ 8 * entry .args .cell .0 + entry .args .slot .0 = omega arith in
       let to-mark = c .before .before .before .before .before .before .to-mark in
-      c .before .before .note .ensures
-      ∙ sym (cell-noted slots marks (reference - 1) depth (c .before .before .before .before .if2 .taken))
-      ∙ sym (slot-cell slots marks depth reference (to-mark .ensures) (c .before .before .before .before .before .if1 .taken))
-      ∙ ap (λ (i : ℕ). markSlot depth slots marks (getD slots i 0)) at-slot
+      let asked = to-mark .ensures n (entry .pre .1 .0 .within at) in
+      let named = mark-named m reference (sym asked ∙ c .before .before .before .before .before .if1 .taken) in
+      let noted = c .before .before .note .ensures n (entry .pre .1 .1 .0) (omega (arith, entry .pre .1 .0 .within at, named .0)) (named .1) in
+      record {
+        fits = noted .fits;
+        marks = noted .marks
+            ∙ sym (cell-noted slots m (reference - 1) depth (c .before .before .before .before .if2 .taken))
+            ∙ sym (slot-cell slots m depth reference asked (c .before .before .before .before .before .if1 .taken))
+            ∙ ap (λ (i : ℕ). markSlot depth slots m (getD slots i 0)) at-slot;
+      }
 
   mark-slot-cast-of : mark-slot-lts.Need-cast-of (mark-slot-claims t) (mark-slot-at t) mark-slot.Post
   mark-slot-cast-of c =
@@ -214,7 +245,9 @@ module _ (t : ℕ) where
       let index = c .before .before .before .before .before .before .index in
       let at = 8 * index .result + c .before .before .before .before .before .index2 .result in
       let to-mark = c .before .before .to-mark in
-      let named = mark-named (entry .args .marks .now) (getD (entry .args .slots .now) at 0) (sym (to-mark .ensures) ∙ c .before .if1 .taken) in
+      let n = cellsOf (entry .args .slots .now) in
+      let asked = to-mark .ensures n (entry .pre .1 .0 .within at) in
+      let named = mark-named (marksOf n (entry .args .marks .now)) (getD (entry .args .slots .now) at 0) (sym asked ∙ c .before .if1 .taken) in
       omega arith
 
   mark-slot-of-requires : mark-slot-lts.Need-of-requires (mark-slot-claims t) (mark-slot-at t) mark-slot.Post
@@ -235,14 +268,16 @@ module _ (t : ℕ) where
       let index = c .before .before .before .before .before .before .before .before .before .index in
       let at = 8 * index .result + c .before .before .before .before .before .before .before .before .index2 .result in
       let to-mark = c .before .before .before .before .before .to-mark in
-      let named = mark-named (entry .args .marks .now) (getD (entry .args .slots .now) at 0) (sym (to-mark .ensures) ∙ c .before .before .before .before .if1 .taken) in
+      let n = cellsOf (entry .args .slots .now) in
+      let asked = to-mark .ensures n (entry .pre .1 .0 .within at) in
+      let named = mark-named (marksOf n (entry .args .marks .now)) (getD (entry .args .slots .now) at 0) (sym asked ∙ c .before .before .before .before .if1 .taken) in
       absurd (omega (arith, rw (c .enum-told .given .1) at (c .before .before .of .ensures), entry .pre .1 .0 .within at))
 
   mark-slot-mark-cell-requires : mark-slot-lts.Need-mark-cell-requires (mark-slot-claims t) (mark-slot-at t) mark-slot.Post
   mark-slot-mark-cell-requires c κs =
       let entry = c .before .before .before .before .before .before .before .before .before .before .before .before .before .before in
       let is = rw (c .before .before .named .given .1) at (c .before .before .before .before .of .ensures) in
-      (omega arith, (entry .pre .1 .0, (omega arith, omega arith)))
+      (omega arith, (entry .pre .1 .0, (entry .pre .1 .1 .0, (omega arith, omega arith))))
 
   mark-slot-same-length-3 : mark-slot-lts.Need-same-length-3 (mark-slot-claims t) (mark-slot-at t) mark-slot.Post
   mark-slot-same-length-3 c = search needs
@@ -252,7 +287,8 @@ module _ (t : ℕ) where
       let entry =
       c .before .before .before .before .before .before .before .before .before .before .before .before .before .before .before .before .before in
       let slots = entry .args .slots .now in
-      let marks = entry .args .marks .now in
+      let n = cellsOf slots in
+      let m = marksOf n (entry .args .marks .now) in
       let depth = entry .args .depth in
       let index = c .before .before .before .before .before .before .before .before .before .before .before .before .before .before .index in
       let at = 8 * index .result + c .before .before .before .before .before .before .before .before .before .before .before .before .before .index2 .result in
@@ -260,9 +296,14 @@ module _ (t : ℕ) where
       let at-slot : at ≡ 8 * entry .args .cell .0 + entry .args .slot .0 = omega arith in
       let is = rw (c .before .before .before .before .before .named .given .1) at (c .before .before .before .before .before .before .before .of .ensures) in
       let to-mark = c .before .before .before .before .before .before .before .before .before .before .to-mark in
-      c .before .before .mark-cell .ensures ∙ ap (markCell depth slots marks) (is .0)
-      ∙ sym (slot-cell slots marks depth reference (to-mark .ensures) (c .before .before .before .before .before .before .before .before .before .if1 .taken))
-      ∙ ap (λ (i : ℕ). markSlot depth slots marks (getD slots i 0)) at-slot
+      let asked = to-mark .ensures n (entry .pre .1 .0 .within at) in
+      let mark-cell = c .before .before .mark-cell in
+      record {
+        fits = mark-cell .ensures .fits;
+        marks = mark-cell .ensures .marks ∙ ap (markCell depth slots m) (is .0)
+            ∙ sym (slot-cell slots m depth reference asked (c .before .before .before .before .before .before .before .before .before .if1 .taken))
+            ∙ ap (λ (i : ℕ). markSlot depth slots m (getD slots i 0)) at-slot;
+      }
 
   mark-slot-same-length-4 : mark-slot-lts.Need-same-length-4 (mark-slot-claims t) (mark-slot-at t) mark-slot.Post
   mark-slot-same-length-4 c = search needs
@@ -271,14 +312,18 @@ module _ (t : ℕ) where
   mark-slot-returns-4 c =
       let entry = c .before .before .before .before .before .before .before .before in
       let slots = entry .args .slots .now in
-      let marks = entry .args .marks .now in
+      let n = cellsOf slots in
+      let m = marksOf n (entry .args .marks .now) in
       let depth = entry .args .depth in
       let index = c .before .before .before .before .before .index in
       let at = 8 * index .result + c .before .before .before .before .index2 .result in
       let reference = getD slots at 0 in
       let at-slot : at ≡ 8 * entry .args .cell .0 + entry .args .slot .0 = omega arith in
-      sym (slot-none slots marks depth reference (c .before .to-mark .ensures) (c .if1 .left))
-      ∙ ap (λ (i : ℕ). markSlot depth slots marks (getD slots i 0)) at-slot
+      record {
+        fits = entry .pre .1 .1 .0;
+        marks = sym (slot-none slots m depth reference (c .before .to-mark .ensures n (entry .pre .1 .0 .within at)) (c .if1 .left))
+            ∙ ap (λ (i : ℕ). markSlot depth slots m (getD slots i 0)) at-slot;
+      }
 
 pub +mark-cell+mark-slot-spec : {M : Type 1} → statement M
 +mark-cell+mark-slot-spec =

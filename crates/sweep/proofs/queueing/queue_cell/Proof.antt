@@ -9,21 +9,21 @@ use borrow.Author.Needs.{needs}
 use Rattle.sweep.proofs.queueing.queue_cell.Statement.{statement}
 use Rattle.sweep.proofs.queueing.queue_cell.Tie as tie
 
-is-due-requires : tie.Need-is-due-requires
-is-due-requires c κs =
-    let entry = c .before .before .before .before .before .before in
-    (entry .pre .0, (omega (arith, entry .pre .1 .fit .flags-size), omega (arith, entry .pre .1 .marks-size)))
+is-finalizable-requires : tie.Need-is-finalizable-requires
+is-finalizable-requires c κs =
+    let entry = c .before .before .before .before .before in
+    (entry .pre .0, omega (arith, entry .pre .1 .fit .flags-size))
 
 returns : tie.Need-returns
 returns c =
-    let entry = c .before .before .before .before .before .before .before .before in
-    queued-none (entry .args .cell .0) (sym (c .before .is-due .ensures) ∙ not-true _ (c .if1 .taken))
+    let entry = c .before .before .before .before .before .before .before in
+    queued-none (entry .args .cell .0) (sym (c .before .is-finalizable .ensures) ∙ not-true _ (c .if1 .taken))
 
 enqueue-requires : tie.Need-enqueue-requires
 enqueue-requires c κs =
-    let entry = c .before .before .before .before .before .before .before .before .before .before in
+    let entry = c .before .before .before .before .before .before .before .before .before in
     let fit = entry .pre .1 .fit in
-    let room = room-one (entry .args .cell .0) (sym (c .before .before .before .is-due .ensures) ∙ not-false _ (c .before .before .if1 .left)) (entry .pre .1) in
+    let room = room-one (entry .args .cell .0) (sym (c .before .before .before .is-finalizable .ensures) ∙ not-false _ (c .before .before .if1 .left)) (entry .pre .1) in
     (omega (arith, fit .small), (omega (arith, fit .control-size), (omega (arith, fit .queue-size), omega (arith, fit .small))))
 
 index-requires : tie.Need-index-requires
@@ -35,15 +35,15 @@ mul-count c = search needs
 slice-read-count : tie.Need-slice-read-count
 slice-read-count c =
     let entry =
-    c .before .before .before .before .before .before .before .before .before .before .before .before .before .before .before .before .before in
+    c .before .before .before .before .before .before .before .before .before .before .before .before .before .before .before .before in
     omega (arith, entry .pre .1 .fit .count-size)
 
 add-count : tie.Need-add-count
 add-count c =
     let entry =
-    c .before .before .before .before .before .before .before .before .before .before .before .before .before .before .before .before .before in
-    let is-due = c .before .before .before .before .before .before .before .before .before .before .is-due in
-    let room = room-one (entry .args .cell .0) (sym (is-due .ensures) ∙ not-false _ (c .before .before .before .before .before .before .before .before .before .if1 .left)) (entry .pre .1) in
+    c .before .before .before .before .before .before .before .before .before .before .before .before .before .before .before .before in
+    let is-finalizable = c .before .before .before .before .before .before .before .before .before .before .is-finalizable in
+    let room = room-one (entry .args .cell .0) (sym (is-finalizable .ensures) ∙ not-false _ (c .before .before .before .before .before .before .before .before .before .if1 .left)) (entry .pre .1) in
     omega (arith, ap (λ (i : ℕ). getD (entry .args .count .now) i 0) (c .before .index .ensures))
 
 mul-count-2 : tie.Need-mul-count-2
@@ -52,13 +52,13 @@ mul-count-2 c = search needs
 slice-write-count : tie.Need-slice-write-count
 slice-write-count c =
     let entry =
-    c .before .before .before .before .before .before .before .before .before .before .before .before .before .before .before .before .before in
+    c .before .before .before .before .before .before .before .before .before .before .before .before .before .before .before .before in
     omega (arith, entry .pre .1 .fit .count-size)
 
 same-length : tie.Need-same-length
 same-length c =
     let entry =
-    c .before .before .before .before .before .before .before .before .before .before .before .before .before .before .before .before .before in
+    c .before .before .before .before .before .before .before .before .before .before .before .before .before .before .before .before in
     let index = c .before .index in
     length-set (entry .args .count .now) (index .result) (getD (entry .args .count .now) (index .result) 0 + 1)
 
@@ -71,13 +71,13 @@ same-length-3 c = c .before .before .before .before .before .before .enqueue .ke
 returns-2 : tie.Need-returns-2
 returns-2 c =
     let entry =
-    c .before .before .before .before .before .before .before .before .before .before .before .before .before .before .before .before .before in
-    let is-due = c .before .before .before .before .before .before .before .before .before .before .is-due in
+    c .before .before .before .before .before .before .before .before .before .before .before .before .before .before .before .before in
+    let is-finalizable = c .before .before .before .before .before .before .before .before .before .before .is-finalizable in
     let enqueue = c .before .before .before .before .before .before .enqueue in
     let one-more = ap (λ (i : ℕ). set (entry .args .count .now) i (getD (entry .args .count .now) i 0 + 1)) (c .before .index .ensures) in
     queued-one
     (entry .args .cell .0)
-    (sym (is-due .ensures) ∙ not-false _ (c .before .before .before .before .before .before .before .before .before .if1 .left))
+    (sym (is-finalizable .ensures) ∙ not-false _ (c .before .before .before .before .before .before .before .before .before .if1 .left))
     one-more
     (enqueue .ensures .0)
     (enqueue .ensures .1)
@@ -86,7 +86,7 @@ pub queue-cell-spec : {M : Type 1} → statement M
 queue-cell-spec =
     tie.close
     (tie.spec
-    is-due-requires
+    is-finalizable-requires
     returns
     enqueue-requires
     index-requires

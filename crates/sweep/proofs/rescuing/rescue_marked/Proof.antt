@@ -4,6 +4,7 @@ use native.Mathlib.Omega.{arith}
 use mathlib.Core.Path.{_≡_, refl, _∙_}
 use lib.ListN.{length}
 use Rattle.rules.specs.Lists.{select}
+use Rattle.rules.specs.Words.{bitsOf}
 use Rattle.sweep.specs.Phases.{isRescued, Restored}
 use Rattle.sweep.proofs.Rescues.{rescued-start, rescued-next, decided-none, decided-all}
 use borrow.Author.Needs.{needs}
@@ -11,21 +12,21 @@ use Rattle.sweep.proofs.rescuing.rescue_marked.Statement.{statement}
 use Rattle.sweep.proofs.rescuing.rescue_marked.Tie as tie
 
 abbrev Inv-loop : tie.InvT-loop
-Inv-loop flags₀ marks waiting c₀ c-end flags c =
-    (c ≤ length flags₀) × (length flags ≡ length flags₀) × Restored flags₀ (select (isRescued flags₀ marks) c) flags
+Inv-loop flags₀ marked waiting c₀ c-end flags c =
+    (c ≤ length flags₀) × (length flags ≡ length flags₀) × Restored flags₀ (select (isRescued flags₀ (bitsOf (length flags₀) marked)) c) flags
 
 abbrev μ-loop : tie.MeasureT-loop
-μ-loop flags₀ marks waiting c₀ c-end flags c = length flags₀ - c
+μ-loop flags₀ marked waiting c₀ c-end flags c = length flags₀ - c
 
 returns : tie.Need-returns Inv-loop μ-loop
 returns c =
     let entry = c .before .before .before in
-    decided-none (entry .args .flags .now) (entry .args .marks .now) (entry .args .waiting) (λ z. omega arith)
+    decided-none (entry .args .flags .now) (bitsOf (length (entry .args .flags .now)) (entry .args .marked .now)) (entry .args .waiting) (λ z. omega arith)
 
 loop-holds : tie.Need-loop-holds Inv-loop μ-loop
 loop-holds c =
     let entry = c .before .before .before in
-    (omega arith, refl, rescued-start (isRescued (entry .args .flags .now) (entry .args .marks .now)))
+    (omega arith, refl, rescued-start (isRescued (entry .args .flags .now) (bitsOf (length (entry .args .flags .now)) (entry .args .marked .now))))
 
 of-requires : tie.Need-of-requires Inv-loop μ-loop
 of-requires c κs = search needs
@@ -53,7 +54,7 @@ rescue-cell-requires c κs =
     let loop = c .before .before .before .before .before .before .loop in
     let is = rw (cell .given .1) at (of .ensures) in
     let here : cell .given .0 .0 .0 ≡ loop .c = omega arith in
-    omega arith
+    (omega arith, omega arith)
 
 add-c : tie.Need-add-c Inv-loop μ-loop
 add-c c = omega arith
@@ -72,7 +73,8 @@ loop-again c =
     let here : cell .given .0 .0 .0 ≡ loop .c = omega arith in (
       omega arith,
       rescue-cell .kept .0 ∙ loop .inv .1,
-      rescued-next (entry .args .marks .now) (loop .c) (omega arith) (loop .inv .2) (rw here at (rescue-cell .ensures)),
+      rescued-next (bitsOf (length (entry .args .flags .now)) (entry .args .marked .now)) (loop .c) (omega arith) (loop .inv .2)
+          (rw (here, loop .inv .1) at (rescue-cell .ensures)),
     )
 
 same-length-2 : tie.Need-same-length-2 Inv-loop μ-loop

@@ -1,81 +1,128 @@
--- `sweep::unlinking::unlink_unmarked` meets its contract: the slots of the garbage below `c` have come off, and the others are counted still. Assumes nothing.
-use Prim.Native.Nat.{_-_, _≤_}
+-- `sweep::unlinking::unlink_unmarked` meets its contract: the slots of the garbage below the cell found have come off, and the others are counted still.
+-- Assumes nothing.
+use Prim.Native.Nat.{ℕ, suc, _≤_}
 use native.Mathlib.Omega.{arith}
-use mathlib.Core.Path.{_≡_, refl, _∙_}
+use mathlib.Core.List.{List}
+use mathlib.Core.Path.{_≡_, refl, subst, subst⁻¹, _∙_}
 use lib.ListN.{length}
 use Rattle.rules.specs.Lists.{select}
+use Rattle.rules.specs.Words.{bitsOf, nextOpen}
+use Rattle.words.specs.Search.{FoundFrom}
 use Rattle.sweep.specs.Phases.{isGarbage, Unlinked}
+use Rattle.sweep.proofs.Searches.{left, search-asks, found-first, garbage-passed, garbage-found, found-less, found-all}
 use Rattle.sweep.proofs.Unlinks.{unlinked-start, unlinked-next, slots-covered-next}
 use borrow.Author.Needs.{needs}
 use Rattle.sweep.proofs.unlinking.unlink_unmarked.Statement.{statement}
 use Rattle.sweep.proofs.unlinking.unlink_unmarked.Tie as tie
 
+-- the search went on from the cell `from`
 abbrev Inv-loop : tie.InvT-loop
-Inv-loop kind count₀ slots marks c₀ c-end count c = (c ≤ length kind) × (length count ≡ length count₀) × Unlinked slots count₀ (select (isGarbage kind marks) c) count
+Inv-loop kind count₀ slots used marked found₀ count found =
+    (from : ℕ) × (from ≤ length kind) × FoundFrom used marked (length kind) from found × (length count ≡ length count₀)
+    × Unlinked slots count₀ (select (isGarbage kind (bitsOf (length kind) marked)) (nextOpen used marked from (length kind))) count
 
 abbrev μ-loop : tie.MeasureT-loop
-μ-loop kind count₀ slots marks c₀ c-end count c = length kind - c
+μ-loop kind count₀ slots used marked found₀ count found = left (length kind) found
+
+from-first-requires : tie.Need-from-first-requires Inv-loop μ-loop
+from-first-requires c κs =
+    let entry = c .before .before .before .before .before in
+    omega (arith, entry .pre .0 .0 .some, entry .pre .0 .0 .room, entry .pre .0 .0 .same)
+
+next-open-requires : tie.Need-next-open-requires Inv-loop μ-loop
+next-open-requires c κs =
+    let entry = c .before .before .before .before .before .before in
+    let from-first = c .from-first in
+    let words = entry .pre .0 .0 in
+    (search-asks words, (omega (arith, from-first .ensures (length (entry .args .kind .now)) (words .some) .near), omega (arith, words .room, words .few)))
 
 loop-holds : tie.Need-loop-holds Inv-loop μ-loop
 loop-holds c =
-    let entry = c .before .before .before .before in
-    (omega arith, refl, unlinked-start (isGarbage (entry .args .kind .now) (entry .args .marks .now)))
-
-of-requires : tie.Need-of-requires Inv-loop μ-loop
-of-requires c κs = search needs
-
-enum-known-cell : tie.Need-enum-known-cell Inv-loop μ-loop
-enum-known-cell c = search needs
-
-enum-told : tie.Need-enum-told Inv-loop μ-loop
-enum-told c = search needs
-
-same-length : tie.Need-same-length Inv-loop μ-loop
-same-length c = absurd (omega (arith, rw (c .enum-told .given .1) at (c .before .before .of .ensures)))
-
-returns : tie.Need-returns Inv-loop μ-loop
-returns c = absurd (omega (arith, rw (c .enum-told .given .1) at (c .before .before .of .ensures)))
+    let entry = c .before .before .before .before .before .before .before in
+    let next-open = c .next-open in
+    let from-first = c .before .from-first in
+    let words = entry .pre .0 .0 in
+    let count = entry .args .count .now in
+    let garbage = isGarbage (entry .args .kind .now) (bitsOf (length (entry .args .kind .now)) (entry .args .marked .now)) in
+    let none = garbage-passed words 0 (omega arith) in (
+      0,
+      omega arith,
+      found-first words (next-open .result) (from-first .ensures) (next-open .ensures),
+      refl,
+      subst⁻¹ (λ (l : List ℕ). Unlinked (entry .args .slots .now) count l count) none (unlinked-start garbage),
+    )
 
 unlink-cell-requires : tie.Need-unlink-cell-requires Inv-loop μ-loop
 unlink-cell-requires c κs =
-    let entry = c .before .before .before .before .before .before .before .before .before .before .before in
-    let loop = c .before .before .before .before .before .before .loop in
-    let of = c .before .before .before .before .of in
-    let cell = c .before .before .cell .given in
-    let is = rw (cell .1) at (of .ensures) in
-    let here : cell .0 .0 .0 ≡ loop .c = omega arith in
+    let entry = c .before .before .before .before .before .before .before .before .before .before .before .before in
+    let loop = c .before .before .before .before .loop in
+    let found = c .before .before .found in
+    let words = entry .pre .0 .0 in
     let kind = entry .args .kind .now in
-    let still = slots-covered-next (isGarbage kind (entry .args .marks .now)) (loop .c) (loop .inv .2) (length kind) (omega arith) (entry .pre .1 .1) in
-    ((omega arith, omega arith), (omega (arith, entry .pre .0 .1), (entry .pre .1 .0, rw here still)))
+    let garbage = isGarbage kind (bitsOf (length kind) (entry .args .marked .now)) in
+    let from = loop .inv .0 in
+    let is = rw (found .given .1) at (loop .inv .2) in
+    let passes = garbage-found words from (loop .inv .1) (is .1) in
+    let c = nextOpen (entry .args .used .now) (entry .args .marked .now) from (length kind) in
+    let still = slots-covered-next garbage c passes (loop .inv .4) (length kind) (is .1) (entry .pre .1 .1) in
+    (omega arith, (omega (arith, entry .pre .0 .1), (entry .pre .1 .0, rw (is .0) still)))
 
-add-c : tie.Need-add-c Inv-loop μ-loop
-add-c c = omega arith
+next-open-requires-2 : tie.Need-next-open-requires-2 Inv-loop μ-loop
+next-open-requires-2 c κs =
+    let entry = c .before .before .before .before .before .before .before .before .before .before .before .before .before .before .before in
+    let found = c .before .before .before .before .before .found in
+    let loop = c .before .before .before .before .before .before .before .loop in
+    let words = entry .pre .0 .0 in
+    let is = rw (found .given .1) at (loop .inv .2) in
+    (search-asks words, (omega (arith, is .2 .inside), omega (arith, words .room, words .few)))
 
 loop-less : tie.Need-loop-less Inv-loop μ-loop
-loop-less c = omega arith
+loop-less c =
+    let found = c .before .before .before .before .before .before .found in
+    let loop = c .before .before .before .before .before .before .before .before .loop in
+    let entry = c .before .before .before .before .before .before .before .before .before .before .before .before .before .before .before .before in
+    let next-open2 = c .next-open2 in
+    let is = rw (found .given .1) at (loop .inv .2) in
+    let c = nextOpen (entry .args .used .now) (entry .args .marked .now) (loop .inv .0) (length (entry .args .kind .now)) in
+    rw (found .given .1) (found-less (entry .pre .0 .0) (loop .inv .0) (loop .inv .1) (is .1) (is .0) (next-open2 .result) (next-open2 .ensures (suc c) (is .2)))
 
 loop-again : tie.Need-loop-again Inv-loop μ-loop
 loop-again c =
-    let entry = c .before .before .before .before .before .before .before .before .before .before .before .before .before .before in
-    let loop = c .before .before .before .before .before .before .before .before .before .loop in
-    let unlink-cell = c .before .before .unlink-cell in
-    let of = c .before .before .before .before .before .before .before .of in
-    let cell = c .before .before .before .before .before .cell .given in
-    let is = rw (cell .1) at (of .ensures) in
-    let here : cell .0 .0 .0 ≡ loop .c = omega arith in (
-      omega arith,
-      unlink-cell .kept .1 .0 ∙ loop .inv .1,
-      unlinked-next (isGarbage (entry .args .kind .now) (entry .args .marks .now)) (loop .c) (loop .inv .2) (rw here at (unlink-cell .ensures)),
+    let entry = c .before .before .before .before .before .before .before .before .before .before .before .before .before .before .before .before in
+    let found = c .before .before .before .before .before .before .found in
+    let loop = c .before .before .before .before .before .before .before .before .loop in
+    let unlink-cell = c .before .before .before .unlink-cell in
+    let next-open2 = c .next-open2 in
+    let words = entry .pre .0 .0 in
+    let kind = entry .args .kind .now in
+    let slots = entry .args .slots .now in
+    let garbage = isGarbage kind (bitsOf (length kind) (entry .args .marked .now)) in
+    let is = rw (found .given .1) at (loop .inv .2) in
+    let c = nextOpen (entry .args .used .now) (entry .args .marked .now) (loop .inv .0) (length kind) in
+    let passes = garbage-found words (loop .inv .0) (loop .inv .1) (is .1) in
+    let off = unlinked-next garbage c passes (loop .inv .4) (rw (is .0) at (unlink-cell .ensures)) in (
+      suc c,
+      omega (arith, is .1),
+      next-open2 .ensures (suc c) (is .2),
+      unlink-cell .kept .1 .0 ∙ loop .inv .3,
+      subst⁻¹ (λ (l : List ℕ). Unlinked slots (entry .args .count .now) l (unlink-cell .last .1 .0)) (garbage-passed words (suc c) (omega (arith, is .1))) off,
     )
 
-same-length-2 : tie.Need-same-length-2 Inv-loop μ-loop
-same-length-2 c = c .before .loop .inv .1
+same-length : tie.Need-same-length Inv-loop μ-loop
+same-length c =
+    let loop = c .before .before .loop in
+    loop .inv .3
 
-returns-2 : tie.Need-returns-2 Inv-loop μ-loop
-returns-2 c =
-    let entry = c .before .before .before .before .before .before in
-    let all : c .before .loop .c ≡ length (entry .args .kind .now) = omega arith in
-    rw all at (c .before .loop .inv .2)
+returns : tie.Need-returns Inv-loop μ-loop
+returns c =
+    let entry = c .before .before .before .before .before .before .before .before .before .before in
+    let enum-told = c .enum-told in
+    let loop = c .before .before .loop in
+    let kind = entry .args .kind .now in
+    let garbage = isGarbage kind (bitsOf (length kind) (entry .args .marked .now)) in
+    let past = rw (enum-told .given .1) at (loop .inv .2) in
+    let all = found-all (entry .pre .0 .0) (loop .inv .0) (loop .inv .1) past in
+    subst (λ (i : ℕ). Unlinked (entry .args .slots .now) (entry .args .count .now) (select garbage i) (loop .count)) all (loop .inv .4)
 
 pub unlink-unmarked-spec : {M : Type 1} → statement M
 unlink-unmarked-spec =
@@ -83,15 +130,14 @@ unlink-unmarked-spec =
     (tie.spec
     Inv-loop
     μ-loop
+    from-first-requires
+    next-open-requires
     loop-holds
-    of-requires
-    enum-known-cell
-    enum-told
-    same-length
-    returns
+    (λ c. search needs)
     unlink-cell-requires
-    add-c
+    next-open-requires-2
     loop-less
     loop-again
-    same-length-2
-    returns-2)
+    (λ c. search needs)
+    same-length
+    returns)
