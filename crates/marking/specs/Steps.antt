@@ -7,7 +7,7 @@ use mathlib.Core.Path.{_≡_}
 use lib.ListN.{length, getD, set, replicate}
 use Rattle.rules.specs.Depth.{toMark, notedBetween}
 use Rattle.rules.specs.Words.{markedOf, notedOf, marksOf}
-use Rattle.laws.specs.Words.Marks.{WordsFor, Pictured}
+use Rattle.laws.specs.Words.Marks.{WordsFor, HasMarks}
 use Rattle.numbers.specs.Numbers.{AsCell}
 use Rattle.numbers.specs.declared.cell.CellNumber.{CellNumber}
 use Rattle.words.specs.Search.{Left}
@@ -27,11 +27,11 @@ ToMark words r b = (n : ℕ) → r ≤ n → b ≡ toMark (marksOf n words) r
 
 -- cell c was marked
 abbrev pub CellMarked : List ℕ → ℕ → List ℕ → Type 0
-CellMarked words c words′ = (n : ℕ) → WordsFor n words → c < n → Pictured n words′ (set (marksOf n words) c 1)
+CellMarked words c words′ = (n : ℕ) → WordsFor n words → c < n → HasMarks n words′ (set (marksOf n words) c 1)
 
 -- cell c, which was not marked, was noted
 abbrev pub CellNoted : List ℕ → ℕ → List ℕ → Type 0
-CellNoted words c words′ = (n : ℕ) → WordsFor n words → c < n → (getD (marksOf n words) c 0 ≡ 1 → ⊥) → Pictured n words′ (set (marksOf n words) c 2)
+CellNoted words c words′ = (n : ℕ) → WordsFor n words → c < n → (getD (marksOf n words) c 0 ≡ 1 → ⊥) → HasMarks n words′ (set (marksOf n words) c 2)
 
 -- the first noted cell of n, wherever the cells that are left of a search begin
 abbrev pub NotedIn : List ℕ → ℕ → Rest → CellNumber → Type 0

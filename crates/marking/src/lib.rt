@@ -18,7 +18,7 @@ ghost use Rattle.rules.specs.Marking.{markFrom};
 ghost use Rattle.rules.specs.Depth.{markCell, markSlot, markTable, notedBetween, nextNoted, scanAll};
 ghost use Rattle.rules.specs.Words.{marksOf};
 ghost use Rattle.laws.specs.Marking.Marks.{Within, Slots, ClosedMarks};
-ghost use Rattle.laws.specs.Words.Marks.{WordsFor, Pictured};
+ghost use Rattle.laws.specs.Words.Marks.{WordsFor, HasMarks};
 ghost use Rattle.numbers.specs.Numbers.{AsCell};
 ghost use Rattle.marking.specs.Steps.{cellsOf, Unmarked, ToMark, CellMarked, CellNoted, NotedIn};
 
@@ -69,7 +69,7 @@ fn mark_cell(slots: &[u16], marks: &mut [u64], cell: Cell, depth: usize)
     requires { ⌜ Slots (now slots) (cellsOf (now slots)) ⌝ }
     requires { ⌜ WordsFor (cellsOf (now slots)) (now marks) ⌝ }
     requires { ⌜ (cell .0 < cellsOf (now slots)) × (0 < depth) ⌝ }
-    ensures { λ _. ⌜ Pictured (cellsOf (now (slots .entry))) (now (marks .exit)) (markCell depth (now (slots .entry)) (marksOf (cellsOf (now (slots .entry))) (now (marks .entry))) (cell .0)) ⌝ }
+    ensures { λ _. ⌜ HasMarks (cellsOf (now (slots .entry))) (now (marks .exit)) (markCell depth (now (slots .entry)) (marksOf (cellsOf (now (slots .entry))) (now (marks .entry))) (cell .0)) ⌝ }
 {
     set_marked(marks, cell);
     for k in 0..8 {
@@ -85,7 +85,7 @@ fn mark_slot(slots: &[u16], marks: &mut [u64], cell: Cell, slot: Slot, depth: us
     requires { ⌜ Slots (now slots) (cellsOf (now slots)) ⌝ }
     requires { ⌜ WordsFor (cellsOf (now slots)) (now marks) ⌝ }
     requires { ⌜ (cell .0 < cellsOf (now slots)) × (slot .0 < 8) ⌝ }
-    ensures { λ _. ⌜ Pictured (cellsOf (now (slots .entry))) (now (marks .exit))
+    ensures { λ _. ⌜ HasMarks (cellsOf (now (slots .entry))) (now (marks .exit))
         (markSlot depth (now (slots .entry)) (marksOf (cellsOf (now (slots .entry))) (now (marks .entry))) (getD (now (slots .entry)) (8 * cell .0 + slot .0) 0)) ⌝ }
 {
     let reference = slots[8 * cell.index() + slot.index()];
@@ -141,7 +141,7 @@ fn next_noted(marks: &[u64], cells: usize, from: Cell) -> CellNumber
 fn mark_noted(slots: &[u16], marks: &mut [u64])
     requires { ⌜ Slots (now slots) (cellsOf (now slots)) ⌝ }
     requires { ⌜ WordsFor (cellsOf (now slots)) (now marks) ⌝ }
-    ensures { λ _. ⌜ Pictured (cellsOf (now (slots .entry))) (now (marks .exit)) (scanAll 16 (now (slots .entry)) (marksOf (cellsOf (now (slots .entry))) (now (marks .entry)))) ⌝ }
+    ensures { λ _. ⌜ HasMarks (cellsOf (now (slots .entry))) (now (marks .exit)) (scanAll 16 (now (slots .entry)) (marksOf (cellsOf (now (slots .entry))) (now (marks .entry)))) ⌝ }
 {
     let cells = slots.len() / 8;
     let mut next = first_noted(marks, cells);
@@ -156,7 +156,7 @@ fn mark_reference(slots: &[u16], marks: &mut [u64], reference: u16)
     requires { ⌜ Slots (now slots) (cellsOf (now slots)) ⌝ }
     requires { ⌜ WordsFor (cellsOf (now slots)) (now marks) ⌝ }
     requires { ⌜ reference ≤ cellsOf (now slots) ⌝ }
-    ensures { λ _. ⌜ Pictured (cellsOf (now (slots .entry))) (now (marks .exit)) (markSlot 16 (now (slots .entry)) (marksOf (cellsOf (now (slots .entry))) (now (marks .entry))) reference) ⌝ }
+    ensures { λ _. ⌜ HasMarks (cellsOf (now (slots .entry))) (now (marks .exit)) (markSlot 16 (now (slots .entry)) (marksOf (cellsOf (now (slots .entry))) (now (marks .entry))) reference) ⌝ }
 {
     if to_mark(marks, reference) {
         let CellNumber::Is(cell) = Cell::of(reference as usize - 1, slots.len() / 8) else {
@@ -171,7 +171,7 @@ fn mark_table(slots: &[u16], marks: &mut [u64], table: &[u16])
     requires { ⌜ Slots (now slots) (cellsOf (now slots)) ⌝ }
     requires { ⌜ WordsFor (cellsOf (now slots)) (now marks) ⌝ }
     requires { ⌜ Within (cellsOf (now slots)) (now table) ⌝ }
-    ensures { λ _. ⌜ Pictured (cellsOf (now (slots .entry))) (now (marks .exit)) (markTable 16 (now (slots .entry)) (marksOf (cellsOf (now (slots .entry))) (now (marks .entry))) (now (table .entry))) ⌝ }
+    ensures { λ _. ⌜ HasMarks (cellsOf (now (slots .entry))) (now (marks .exit)) (markTable 16 (now (slots .entry)) (marksOf (cellsOf (now (slots .entry))) (now (marks .entry))) (now (table .entry))) ⌝ }
 {
     for i in 0..table.len() {
         mark_reference(slots, marks, table[i]);
@@ -184,7 +184,7 @@ pub fn mark_from(slots: &[u16], marks: &mut [u64], table: &[u16])
     requires { ⌜ WordsFor (cellsOf (now slots)) (now marks) ⌝ }
     requires { ⌜ Within (cellsOf (now slots)) (now table) ⌝ }
     requires { ⌜ ClosedMarks (now slots) (marksOf (cellsOf (now slots)) (now marks)) ⌝ }
-    ensures { λ _. ⌜ Pictured (cellsOf (now (slots .entry))) (now (marks .exit)) (markFrom (now (slots .entry)) (marksOf (cellsOf (now (slots .entry))) (now (marks .entry))) (now (table .entry))) ⌝ }
+    ensures { λ _. ⌜ HasMarks (cellsOf (now (slots .entry))) (now (marks .exit)) (markFrom (now (slots .entry)) (marksOf (cellsOf (now (slots .entry))) (now (marks .entry))) (now (table .entry))) ⌝ }
 {
     mark_table(slots, marks, table);
     mark_noted(slots, marks);
@@ -197,7 +197,7 @@ pub fn mark_all(slots: &[u16], marks: &mut [u64], roots: &[u16], queue: &[u16])
     requires { ⌜ Within (cellsOf (now slots)) (now roots) ⌝ }
     requires { ⌜ Within (cellsOf (now slots)) (now queue) ⌝ }
     requires { ⌜ ClosedMarks (now slots) (marksOf (cellsOf (now slots)) (now marks)) ⌝ }
-    ensures { λ _. ⌜ Pictured (cellsOf (now (slots .entry))) (now (marks .exit))
+    ensures { λ _. ⌜ HasMarks (cellsOf (now (slots .entry))) (now (marks .exit))
         (markFrom (now (slots .entry)) (marksOf (cellsOf (now (slots .entry))) (now (marks .entry))) (now (roots .entry) ++ now (queue .entry))) ⌝ }
 {
     mark_table(slots, marks, roots);

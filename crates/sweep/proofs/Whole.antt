@@ -26,7 +26,7 @@ use Rattle.laws.specs.Collect.Unlinking.{SlotsCovered}
 use Rattle.laws.specs.Collect.Live.{due-only, due-once, due-room, due-within, kept-bits, live-used}
 use Rattle.laws.specs.Collect.Left.{unlink-covered}
 use Rattle.laws.specs.Words.Cells.{getD-bitsOf}
-use Rattle.laws.specs.Words.Marks.{WordsFor, Pictured, marks-zeros, words-zeros, marked-bits, marked-spare}
+use Rattle.laws.specs.Words.Marks.{WordsFor, HasMarks, marks-zeros, words-zeros, marked-bits, marked-spare}
 use Rattle.marking.specs.Steps.{cellsOf}
 use Rattle.sweep.specs.Phases.{isRescued, dueOf, garbageOf, rescuedOf, MarkedUsed, Words, QueueRoom, Queued, Unlinked, Same, Freed, Decided, MarkedQueued, rounds, Swept, Collected}
 
@@ -52,24 +52,24 @@ module _ {h : Heap} (s : SoundBut h []) where
 
   -- ---- the first marking
 
-  module _ {words : List ℕ} (p : Pictured (cells h) words (replicate (cells h) 0)) where
+  module _ {words : List ℕ} (p : HasMarks (cells h) words (replicate (cells h) 0)) where
     pub first-asks : Slots (h .slots) (cellsOf (h .slots)) × (WordsFor (cellsOf (h .slots)) words × (Within (cellsOf (h .slots)) (h .roots)
         × (Within (cellsOf (h .slots)) (entries h) × ClosedMarks (h .slots) (marksOf (cellsOf (h .slots)) words))))
     first-asks =
         by-slots (λ (n : ℕ). Slots (h .slots) n × (WordsFor n words × (Within n (h .roots) × (Within n (entries h) × ClosedMarks (h .slots) (marksOf n words)))))
         (sized, (p .fits, (roots-within h s, (entries-within h s, rw (p .marks) (zeros-settled (cells h))))))
 
-    pub first-marks : {words₁ : List ℕ} → Pictured (cellsOf (h .slots)) words₁ (markFrom (h .slots) (marksOf (cellsOf (h .slots)) words) (h .roots ++ entries h))
-        → Pictured (cells h) words₁ (reachedMarks h)
+    pub first-marks : {words₁ : List ℕ} → HasMarks (cellsOf (h .slots)) words₁ (markFrom (h .slots) (marksOf (cellsOf (h .slots)) words) (h .roots ++ entries h))
+        → HasMarks (cells h) words₁ (reachedMarks h)
     unfolding reachedMarks
     first-marks {words₁} q =
-        let q₁ : Pictured (cells h) words₁ (markFrom (h .slots) (marksOf (cells h) words) (h .roots ++ entries h)) =
-        subst (λ (n : ℕ). Pictured n words₁ (markFrom (h .slots) (marksOf n words) (h .roots ++ entries h))) (cells-of s) q in
+        let q₁ : HasMarks (cells h) words₁ (markFrom (h .slots) (marksOf (cells h) words) (h .roots ++ entries h)) =
+        subst (λ (n : ℕ). HasMarks n words₁ (markFrom (h .slots) (marksOf n words) (h .roots ++ entries h))) (cells-of s) q in
         record { fits = q₁ .fits; marks = q₁ .marks ∙ ap (λ (x : List ℕ). markFrom (h .slots) x (h .roots ++ entries h)) (p .marks) }
 
   -- ---- the queueing
 
-  module _ {words₁ : List ℕ} (p₁ : Pictured (cells h) words₁ (reachedMarks h)) where
+  module _ {words₁ : List ℕ} (p₁ : HasMarks (cells h) words₁ (reachedMarks h)) where
     reached-words : bitsOf (cells h) (markedOf words₁) ≡ reachedMarks h
     reached-words = marked-bits (cells h) words₁ (reachedMarks h) p₁ (reached-settled h s .bits)
 
@@ -124,12 +124,12 @@ module _ {h : Heap} (s : SoundBut h []) where
           (sized, (p₁ .fits, (new-within, rw (p₁ .marks) (reached-settled h s))))
 
       pub second-kept : {words₂ : List ℕ}
-          → Pictured (cellsOf (h .slots)) words₂ (markFrom (h .slots) (marksOf (cellsOf (h .slots)) words₁) (take (queued h + r - queued h) (drop (queued h) q′)))
+          → HasMarks (cellsOf (h .slots)) words₂ (markFrom (h .slots) (marksOf (cellsOf (h .slots)) words₁) (take (queued h + r - queued h) (drop (queued h) q′)))
           → MarkedQueued h (tables (h .kind) (h .flags) n′ (h .slots) (h .roots) q′ w′) words₂ r
       unfolding keptMarks
       second-kept {words₂} q =
-          let q₁ : Pictured (cells h) words₂ (markFrom (h .slots) (marksOf (cells h) words₁) (take (queued h + r - queued h) (drop (queued h) q′))) =
-          subst (λ (n : ℕ). Pictured n words₂ (markFrom (h .slots) (marksOf n words₁) (take (queued h + r - queued h) (drop (queued h) q′)))) (cells-of s) q in
+          let q₁ : HasMarks (cells h) words₂ (markFrom (h .slots) (marksOf (cells h) words₁) (take (queued h + r - queued h) (drop (queued h) q′))) =
+          subst (λ (n : ℕ). HasMarks n words₂ (markFrom (h .slots) (marksOf n words₁) (take (queued h + r - queued h) (drop (queued h) q′)))) (cells-of s) q in
           record {
             heap = joined;
             marked = record { fits = q₁ .fits; marks = q₁ .marks ∙ (λ i. markFrom (h .slots) (p₁ .marks i) (part i)) };

@@ -13,7 +13,7 @@ use Rattle.rules.specs.Collect.{enqueueAll, unreachedFinalizable, keptMarks, lo
 use Rattle.rules.specs.Words.{bitOf, markedOf, UsedBits}
 use Rattle.rules.specs.Calls.{answers}
 use Rattle.laws.specs.Sound.But.{Fit}
-use Rattle.laws.specs.Words.Marks.{Pictured}
+use Rattle.laws.specs.Words.Marks.{HasMarks}
 
 -- ---- which cells: an unmarked object with flags 1, an unmarked used cell, a marked cell with flags 3
 
@@ -62,7 +62,7 @@ pub record Words (n : ℕ) (used marks : List ℕ) : Type 0 where
   pub room : n ≤ 64 * length used
   pub same : length (markedOf marks) ≡ length used
   pub few : 64 * length used < 2 ^ 63
-  pub unmarked : Pictured n marks (replicate n 0)
+  pub unmarked : HasMarks n marks (replicate n 0)
 
 -- ---- queueing
 
@@ -118,7 +118,7 @@ pub record Decided (waiting : ℕ) (flags marks flags′ : List ℕ) : Type 0 wh
 -- both markings, and the queueing between them, from marks that are all unmarked
 pub record MarkedQueued (h after : Heap) (marks : List ℕ) (r : ℕ) : Type 0 where
   pub heap : after ≡ enqueueAll h (unreachedFinalizable h)
-  pub marked : Pictured (cells h) marks (keptMarks h)
+  pub marked : HasMarks (cells h) marks (keptMarks h)
   pub many : r ≡ length (unreachedFinalizable h)
 
 -- both rounds, over the cells l

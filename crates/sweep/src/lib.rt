@@ -26,7 +26,7 @@ ghost use Rattle.rules.specs.Words.{markedOf, bitsOf};
 ghost use Rattle.laws.specs.Calls.Inner.{Ran};
 ghost use Rattle.laws.specs.Sound.But.{PlainSlots, SoundBut};
 ghost use Rattle.laws.specs.Collect.Unlinking.{SlotsCovered};
-ghost use Rattle.laws.specs.Words.Marks.{Pictured};
+ghost use Rattle.laws.specs.Words.Marks.{HasMarks};
 ghost use Rattle.sweep.specs.Phases.{garbageOf, Searchable, MarkedUsed, Words, Same, MarkedQueued, Swept, Collected};
 
 // Marks what roots and queue reach; what is left and wants its finalizer joins the queue; marks from there. Answers how many joined.
@@ -43,7 +43,7 @@ fn mark_and_queue(
 ) -> u16
     requires { ⌜ SoundBut (tables (now kind) (now flags) (now count) (now slots) (now roots) (now queue) (now control)) [] ⌝ }
     requires { ⌜ Searchable (now kind) (now used) (markedOf (now marks)) ⌝ }
-    requires { ⌜ Pictured (length (now kind)) (now marks) (replicate (length (now kind)) 0) ⌝ }
+    requires { ⌜ HasMarks (length (now kind)) (now marks) (replicate (length (now kind)) 0) ⌝ }
     ensures { λ r. ⌜ MarkedQueued (tables (now (kind .entry)) (now (flags .entry)) (now (count .entry)) (now (slots .entry)) (now (roots .entry)) (now (queue .entry)) (now (control .entry)))
         (tables (now (kind .entry)) (now (flags .entry)) (now (count .exit)) (now (slots .entry)) (now (roots .entry)) (now (queue .exit)) (now (control .exit)))
         (now (marks .exit)) r ⌝ }

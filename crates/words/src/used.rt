@@ -14,25 +14,26 @@ fn used_bit(kind: u16) -> u64
     if kind == 0 { 0 } else { 1 }
 }
 
-// Where the word that begins at cell `start` ends, or the cells do.
-fn word_end(start: usize, cells: usize) -> usize
-    requires { ⌜ start < 2 ^ 63 ⌝ }
-    ensures { λ r. ⌜ r ≡ min (start + 64) cells ⌝ }
+// Where word j ends, or the cells do.
+fn word_end(j: usize, cells: usize) -> usize
+    requires { ⌜ 64 * j < 2 ^ 63 ⌝ }
+    ensures { λ r. ⌜ r ≡ min (64 * j + 64) cells ⌝ }
 {
-    if cells < start + 64 {
+    if cells < 64 * j + 64 {
         cells
     } else {
-        start + 64
+        64 * j + 64
     }
 }
 
-// The bits of the used cells in the word that begins at cell `start`.
-fn used_word(kind: &[u16], start: usize) -> u64
-    requires { ⌜ start < 2 ^ 63 ⌝ }
-    ensures { λ r. ⌜ UsedWord (now (kind .entry)) start r ⌝ }
+// The bits of the used cells of word j.
+fn used_word(kind: &[u16], j: usize) -> u64
+    requires { ⌜ 64 * j < 2 ^ 63 ⌝ }
+    ensures { λ r. ⌜ UsedWord (now (kind .entry)) (64 * j) r ⌝ }
 {
+    let start = 64 * j;
     let mut word = 0;
-    let mut c = word_end(start, kind.len());
+    let mut c = word_end(j, kind.len());
     while start < c {
         c -= 1;
         word = 2 * word + used_bit(kind[c]);
@@ -46,6 +47,6 @@ pub fn write_used(kind: &[u16], words: &mut [u64])
     ensures { λ _. ⌜ UsedBits (now (kind .entry)) (now (words .exit)) ⌝ }
 {
     for j in 0..words.len() {
-        words[j] = used_word(kind, 64 * j);
+        words[j] = used_word(kind, j);
     }
 }

@@ -1,17 +1,17 @@
--- Laws of the marks that the words of a marking have: a bit read is a mark read, and a bit set in either half is a mark set.
+-- The marks that the words of a marking have, and their laws: a bit read is a mark read, words that are all zero have none, and where none is noted the
+-- first half has them all.
 -- Assumes nothing.
-use Prim.Native.Nat.{ℕ, zero, suc, _+_, _-_, _*_, _/_, _%_, _^_, _≤_, _<_, max}
+use Prim.Native.Nat.{ℕ, zero, suc, _+_, _-_, _*_, _/_, _%_, _^_, _≤_, _<_}
 use native.Mathlib.Omega.{arith}
 use native.Mathlib.Decide.{ℕ-discrete, decLt}
 use borrow.Author.Tests.{eq-eqb, ne-eqb}
 use mathlib.Core.List.{List}
-use mathlib.Core.Bool.{true, not, _&&_, cond}
+use mathlib.Core.Bool.{true, not, _&&_}
 use mathlib.Core.Path.{_≡_, refl, sym, ap, _∙_}
 use lib.Arith.{lt-of-le-ne}
-use lib.Bits.{bitOr}
 use lib.Dec.{eqb}
-use lib.ListN.{length, getD, set, take, replicate, length-set, length-replicate, length-take, List·getD-eq-default}
-use lib.Seq.{ext-getD, getD-set-same, getD-set-other, getD-take, getD-drop}
+use lib.ListN.{length, getD, take, replicate, length-replicate, length-take, List·getD-eq-default}
+use lib.Seq.{ext-getD, getD-take, getD-drop}
 use Rattle.rules.specs.Depth.{toMark, notedBetween}
 use Rattle.rules.specs.Words.{bit, bitOf, markedOf, notedOf, markOf, marksOf, bitsOf, isOpen, nextOpen, NoBitsFrom}
 use Rattle.laws.specs.Lists.Tables.{getD-zeros}
@@ -19,7 +19,7 @@ use Rattle.laws.specs.Marking.Marks.{Bits}
 use Rattle.laws.specs.Marking.Steps.{mark-test}
 use Rattle.laws.specs.Lists.Tests.{and-no}
 use Rattle.laws.specs.Words.Search.{first-law, first-only, lowest-same, open-law}
-use Rattle.laws.specs.Words.Bits.{bit-le, bit-none, bit-or, bit-power, bit-power-other, one-shl}
+use Rattle.laws.specs.Words.Bits.{bit-none}
 use Rattle.laws.specs.Words.Cells.{length-tabulate, getD-tabulate, length-bitsOf, getD-bitsOf, bitOf-le}
 
 -- words for the marks of n cells: both halves have a bit for each of them, and no other bit is set
@@ -29,7 +29,7 @@ pub record WordsFor (n : ℕ) (words : List ℕ) : Type 0 where
   pub spare : (c : ℕ) → n ≤ c → markOf words c ≡ 0
 
 -- these words have these marks
-pub record Pictured (n : ℕ) (words m : List ℕ) : Type 0 where
+pub record HasMarks (n : ℕ) (words m : List ℕ) : Type 0 where
   pub fits : WordsFor n words
   pub marks : marksOf n words ≡ m
 
@@ -52,12 +52,12 @@ module _ (words : List ℕ) (c : ℕ) where
   unfolding bitOf
   marked-bit h = ap (λ (w : ℕ). bit w (c % 64)) (getD-take (length words / 2) words (c / 64) 0 h)
 
-  marked-past : length words / 2 ≤ c / 64 → bitOf (markedOf words) c ≡ 0
+  pub marked-past : length words / 2 ≤ c / 64 → bitOf (markedOf words) c ≡ 0
   unfolding bitOf
   marked-past h =
       ap (λ (w : ℕ). bit w (c % 64)) (List·getD-eq-default (take (length words / 2) words) 0 {n = c / 64} (omega (arith, length-take (length words / 2) words))) ∙ bit-none (c % 64)
 
-  noted-bit : bitOf (notedOf words) c ≡ bit (getD words (length words / 2 + c / 64) 0) (c % 64)
+  pub noted-bit : bitOf (notedOf words) c ≡ bit (getD words (length words / 2 + c / 64) 0) (c % 64)
   unfolding bitOf
   noted-bit = ap (λ (w : ℕ). bit w (c % 64)) (getD-drop (length words / 2) words (c / 64) 0)
 
@@ -71,14 +71,14 @@ module _ (words : List ℕ) (c : ℕ) where
   mark-clear e = rw (ne-eqb (bitOf (markedOf words) c) 1 (λ one. omega arith)) refl
 
   -- a mark of 1 is a bit of the first half
-  pub mark-bit : markOf words c ≡ 1 → bitOf (markedOf words) c ≡ 1
+  mark-bit : markOf words c ≡ 1 → bitOf (markedOf words) c ≡ 1
   mark-bit e = elim (ℕ-discrete (bitOf (markedOf words) c) 1) [
     | yes is ↦ is
     | no f ↦ absurd (omega (arith, mark-clear (let l : bitOf (markedOf words) c < 1 = lt-of-le-ne (bitOf-le (markedOf words) c) f in omega arith)))
   ]
 
-  -- a cell without a mark has no bit in either half
-  pub mark-none : markOf words c ≡ 0 → bitOf (markedOf words) c ≡ 0
+  -- a cell without a mark has no bit there
+  mark-none : markOf words c ≡ 0 → bitOf (markedOf words) c ≡ 0
   mark-none e = elim (ℕ-discrete (bitOf (markedOf words) c) 0) [
     | yes is ↦ is
     | no f ↦
@@ -87,7 +87,7 @@ module _ (words : List ℕ) (c : ℕ) where
   ]
 
   -- what a reference to the cell asks: whether the cell's word, shifted by the place of its bit, is even
-  pub bit-test : c / 64 < length words / 2 → eqb (getD words (c / 64) 0 / 2 ^ (c % 64) % 2) 0 ≡ not (eqb (markOf words c) 1)
+  bit-test : c / 64 < length words / 2 → eqb (getD words (c / 64) 0 / 2 ^ (c % 64) % 2) 0 ≡ not (eqb (markOf words c) 1)
   unfolding bit
   bit-test h =
       let b : ℕ = getD words (c / 64) 0 / 2 ^ (c % 64) % 2 in
@@ -103,114 +103,6 @@ pub test-reference : (n : ℕ) (words : List ℕ) (r : ℕ) → (r ≡ 0 → ⊥
     → eqb (getD words ((r - 1) / 64) 0 / 2 ^ ((r - 1) % 64) % 2) 0 ≡ toMark (marksOf n words) r
 test-reference n words r some h room =
     bit-test words (r - 1) (omega arith) ∙ ap (λ (x : ℕ). not (eqb x 1)) (sym (getD-marks n words (r - 1) (omega arith))) ∙ mark-test (marksOf n words) r some
-
--- ---- writing
-
--- bit i of word j is set
-abbrev pub orBit : List ℕ → ℕ → ℕ → List ℕ
-orBit words j i = set words j (bitOr (getD words j 0) ((1 * 2 ^ i) % 2 ^ 64))
-
-module _ (words : List ℕ) (j i : ℕ) (word : j < length words) (low : i < 64) where
-  or-word : (k : ℕ) → bit (getD (orBit words j i) j 0) k ≡ max (bit (getD words j 0) k) (bit (2 ^ i) k)
-  or-word k = rw (getD-set-same words j (bitOr (getD words j 0) ((1 * 2 ^ i) % 2 ^ 64)) 0 word, one-shl i low) (bit-or (getD words j 0) (2 ^ i) k)
-
-  or-here : bit (getD (orBit words j i) j 0) i ≡ 1
-  or-here = omega (arith, or-word i, bit-le (getD words j 0) i, bit-power i)
-
-  or-there : (e k : ℕ) → ((e ≡ j) × (k ≡ i) → ⊥) → bit (getD (orBit words j i) e 0) k ≡ bit (getD words e 0) k
-  or-there e k f = elim (ℕ-discrete e j) [
-    | yes is ↦ rw is (omega (arith, or-word k, bit-power-other i k (λ same. f (is, same))))
-    | no g ↦ ap (λ (w : ℕ). bit w k) (getD-set-other words j e (bitOr (getD words j 0) ((1 * 2 ^ i) % 2 ^ 64)) 0 g)
-  ]
-
--- marks of the same two bits
-mark-same : (words words′ : List ℕ) (c : ℕ) → bitOf (markedOf words′) c ≡ bitOf (markedOf words) c → bitOf (notedOf words′) c ≡ bitOf (notedOf words) c → markOf words′ c ≡ markOf words c
-unfolding markOf
-mark-same words words′ c p q j = cond (eqb (p j) 1) 1 (2 * q j)
-
--- and the marks of n cells, where one cell's mark becomes v
-marks-set : (n : ℕ) (words words′ : List ℕ) (c v : ℕ) → c < n → markOf words′ c ≡ v → ((d : ℕ) → (d ≡ c → ⊥) → markOf words′ d ≡ markOf words d)
-    → marksOf n words′ ≡ set (marksOf n words) c v
-marks-set n words words′ c v h here there =
-    ext-getD 0 (marksOf n words′) (set (marksOf n words) c v) (length-marks n words′ ∙ sym (length-set (marksOf n words) c v ∙ length-marks n words)) (λ d l.
-    let ld : d < n = omega (arith, length-marks n words′) in
-    getD-marks n words′ d ld ∙ elim (ℕ-discrete d c) [
-      | yes e ↦ rw e (here ∙ sym (getD-set-same (marksOf n words) c v 0 (omega (arith, length-marks n words))))
-      | no f ↦ there d f ∙ sym (getD-marks n words d ld) ∙ sym (getD-set-other (marksOf n words) c d v 0 f)
-    ])
-
--- cell c has words in both halves; its bit is set in word j, which is in the first half or the second
-module _ (words : List ℕ) (c : ℕ) (room : c / 64 < length words / 2) where
-  half-same : (j : ℕ) → length (orBit words j (c % 64)) / 2 ≡ length words / 2
-  half-same j = ap (λ (k : ℕ). k / 2) (length-set words j (bitOr (getD words j 0) ((1 * 2 ^ (c % 64)) % 2 ^ 64)))
-
-  -- a half whose words were not written, or not at this bit
-  module _ (j : ℕ) (word : j < length words) (d : ℕ) where
-    marked-kept : (d / 64 < length words / 2 → (d / 64 ≡ j) × (d % 64 ≡ c % 64) → ⊥) → bitOf (markedOf (orBit words j (c % 64))) d ≡ bitOf (markedOf words) d
-    marked-kept f = elim (decLt (d / 64) (length words / 2)) [
-      | yes l ↦
-          marked-bit (orBit words j (c % 64)) d (omega (arith, half-same j)) ∙ or-there words j (c % 64) word (omega arith) (d / 64) (d % 64) (f l) ∙ sym (marked-bit words d l)
-      | no g ↦ marked-past (orBit words j (c % 64)) d (omega (arith, half-same j)) ∙ sym (marked-past words d (omega arith))
-    ]
-
-    noted-kept : ((length words / 2 + d / 64 ≡ j) × (d % 64 ≡ c % 64) → ⊥) → bitOf (notedOf (orBit words j (c % 64))) d ≡ bitOf (notedOf words) d
-    noted-kept f =
-        noted-bit (orBit words j (c % 64)) d ∙ ap (λ (k : ℕ). bit (getD (orBit words j (c % 64)) (k + d / 64) 0) (d % 64)) (half-same j)
-        ∙ or-there words j (c % 64) word (omega arith) (length words / 2 + d / 64) (d % 64) f ∙ sym (noted-bit words d)
-
-  -- the cell is marked
-  first-here : markOf (orBit words (c / 64) (c % 64)) c ≡ 1
-  first-here =
-      mark-set (orBit words (c / 64) (c % 64)) c
-      (marked-bit (orBit words (c / 64) (c % 64)) c (omega (arith, half-same (c / 64))) ∙ or-here words (c / 64) (c % 64) (omega arith) (omega arith))
-
-  first-there : (d : ℕ) → (d ≡ c → ⊥) → markOf (orBit words (c / 64) (c % 64)) d ≡ markOf words d
-  first-there d f =
-      mark-same words (orBit words (c / 64) (c % 64)) d
-      (marked-kept (c / 64) (omega arith) d (λ _ p. f (omega (arith, p .0, p .1)))) (noted-kept (c / 64) (omega arith) d (λ p. omega (arith, p .0)))
-
-  -- or, where it is not marked, noted
-  second : ℕ
-  second = length words / 2 + c / 64
-
-  second-here : (markOf words c ≡ 1 → ⊥) → markOf (orBit words second (c % 64)) c ≡ 2
-  unfolding second
-  second-here f =
-      let unset : bitOf (markedOf words) c ≡ 1 → ⊥ = λ e. f (mark-set words c e) in
-      let clear : bitOf (markedOf words) c ≡ 0 = omega (arith, bitOf-le (markedOf words) c, unset) in
-      let one : bitOf (notedOf (orBit words second (c % 64))) c ≡ 1 =
-      noted-bit (orBit words second (c % 64)) c ∙ ap (λ (k : ℕ). bit (getD (orBit words second (c % 64)) (k + c / 64) 0) (c % 64)) (half-same second)
-      ∙ or-here words second (c % 64) (omega arith) (omega arith) in
-      mark-clear (orBit words second (c % 64)) c (marked-kept second (omega arith) c (λ _ p. omega (arith, p .0)) ∙ clear) ∙ ap (λ (b : ℕ). 2 * b) one
-
-  second-there : (d : ℕ) → (d ≡ c → ⊥) → markOf (orBit words second (c % 64)) d ≡ markOf words d
-  unfolding second
-  second-there d f =
-      mark-same words (orBit words second (c % 64)) d
-      (marked-kept second (omega arith) d (λ l p. omega (arith, p .0))) (noted-kept second (omega arith) d (λ p. f (omega (arith, p .0, p .1))))
-
--- the same of the marks of n cells
-module _ (n : ℕ) (words : List ℕ) (c : ℕ) (w : WordsFor n words) (h : c < n) where
-  has-word : c / 64 < length words / 2
-  has-word = omega (arith, w .room)
-
-  pictured : (j v : ℕ) → markOf (orBit words j (c % 64)) c ≡ v → ((d : ℕ) → (d ≡ c → ⊥) → markOf (orBit words j (c % 64)) d ≡ markOf words d)
-      → Pictured n (orBit words j (c % 64)) (set (marksOf n words) c v)
-  pictured j v here there = record {
-    fits = record {
-      some = w .some;
-      room = omega (arith, w .room, half-same words c has-word j);
-      spare = λ d l. there d (λ e. omega arith) ∙ w .spare d l;
-    };
-    marks = marks-set n words (orBit words j (c % 64)) c v h here there;
-  }
-
-  pub pictured-marked : Pictured n (orBit words (c / 64) (c % 64)) (set (marksOf n words) c 1)
-  pictured-marked = pictured (c / 64) 1 (first-here words c has-word) (first-there words c has-word)
-
-  pub pictured-noted : (getD (marksOf n words) c 0 ≡ 1 → ⊥) → Pictured n (orBit words (length words / 2 + c / 64) (c % 64)) (set (marksOf n words) c 2)
-  unfolding second
-  pictured-noted f = pictured (second words c has-word) 2 (second-here words c has-word (λ e. f (getD-marks n words c h ∙ e))) (second-there words c has-word)
 
 -- ---- words that are all zero: every cell is unmarked
 
@@ -236,7 +128,7 @@ words-zeros n k some room = record { some = some; room = omega (arith, length-re
 
 -- ---- marks without notes: the first half has them all
 
-module _ (n : ℕ) (words m : List ℕ) (p : Pictured n words m) where
+module _ (n : ℕ) (words m : List ℕ) (p : HasMarks n words m) where
   pub marked-bits : Bits m → bitsOf n (markedOf words) ≡ m
   marked-bits b =
       ext-getD 0 (bitsOf n (markedOf words)) m (length-bitsOf n (markedOf words) ∙ sym (ap length (sym (p .marks)) ∙ length-marks n words)) (λ d l.

@@ -11,7 +11,7 @@ use Rattle.rules.specs.Heap.{slotsOf}
 use Rattle.rules.specs.Depth.{each, markSlot, markCell}
 use Rattle.rules.specs.Words.{marksOf}
 use Rattle.laws.specs.Marking.Steps.{each-none, each-slot, each-slots, cell-noted, cell-deep, slot-cell, slot-none, mark-named}
-use Rattle.laws.specs.Words.Marks.{Pictured}
+use Rattle.laws.specs.Words.Marks.{HasMarks}
 use Rattle.marking.specs.Steps.{cellsOf}
 use borrow.Fn.Kinds.{In}
 use borrow.Fn.PlainCycle.{Measures, is, falls, and}
@@ -72,7 +72,7 @@ mark-slot-claims t = (
 abbrev mark-cell-Inv-loop : mark-cell-lts.InvT-loop
 mark-cell-Inv-loop slots marks₀ cell depth k₀ marks k =
     (k ≤ 8) × (length marks ≡ length marks₀)
-    × Pictured (cellsOf slots) marks (each (markSlot (depth - 1) slots) (marksOf (cellsOf slots) marks₀) (take k (slotsOf slots (cell .0))))
+    × HasMarks (cellsOf slots) marks (each (markSlot (depth - 1) slots) (marksOf (cellsOf slots) marks₀) (take k (slotsOf slots (cell .0))))
 
 abbrev mark-cell-μ-loop : mark-cell-lts.MeasureT-loop
 mark-cell-μ-loop slots marks₀ cell depth k₀ marks k = 8 - k

@@ -8,7 +8,7 @@ use lib.Seq.{take-all}
 use Rattle.rules.specs.Depth.{each, markSlot, markTable}
 use Rattle.rules.specs.Words.{marksOf}
 use Rattle.laws.specs.Marking.Steps.{each-none, each-take}
-use Rattle.laws.specs.Words.Marks.{Pictured}
+use Rattle.laws.specs.Words.Marks.{HasMarks}
 use Rattle.marking.specs.Steps.{cellsOf}
 use borrow.Author.Needs.{needs}
 use Rattle.marking.proofs.mark_table.Statement.{statement}
@@ -16,7 +16,7 @@ use Rattle.marking.proofs.mark_table.Tie as tie
 
 abbrev Inv-loop : tie.InvT-loop
 Inv-loop slots marks₀ table i₀ i-end marks i =
-    (i ≤ length table) × (length marks ≡ length marks₀) × Pictured (cellsOf slots) marks (each (markSlot 16 slots) (marksOf (cellsOf slots) marks₀) (take i table))
+    (i ≤ length table) × (length marks ≡ length marks₀) × HasMarks (cellsOf slots) marks (each (markSlot 16 slots) (marksOf (cellsOf slots) marks₀) (take i table))
 
 abbrev μ-loop : tie.MeasureT-loop
 μ-loop slots marks₀ table i₀ i-end marks i = length table - i

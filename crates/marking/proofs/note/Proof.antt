@@ -1,6 +1,6 @@
 -- `marking::note` meets its contract. Assumes nothing.
 use Prim.Native.Nat.{_-_}
-use Rattle.laws.specs.Words.Marks.{pictured-noted}
+use Rattle.laws.specs.Words.Setting.{has-noted}
 use borrow.Author.Needs.{needs}
 use Rattle.marking.proofs.note.Statement.{statement}
 use Rattle.marking.proofs.note.Tie as tie
@@ -8,7 +8,7 @@ use Rattle.marking.proofs.note.Tie as tie
 returns : tie.Need-returns
 returns c =
     let entry = c .before in
-    λ n w h f. pictured-noted n (entry .args .marks .now) (entry .args .reference - 1) w h f
+    λ n w h f. has-noted n (entry .args .marks .now) (entry .args .reference - 1) w h f
 
 pub note-spec : {M : Type 1} → statement M
 note-spec =

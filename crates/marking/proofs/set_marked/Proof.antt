@@ -5,7 +5,8 @@ use mathlib.Core.Path.{subst}
 use lib.ListN.{set}
 use borrow.Author.Needs.{needs}
 use Rattle.rules.specs.Words.{marksOf}
-use Rattle.laws.specs.Words.Marks.{Pictured, orBit, pictured-marked}
+use Rattle.laws.specs.Words.Marks.{HasMarks}
+use Rattle.laws.specs.Words.Setting.{orBit, has-marked}
 use Rattle.marking.proofs.set_marked.Statement.{statement}
 use Rattle.marking.proofs.set_marked.Tie as tie
 
@@ -15,7 +16,7 @@ returns c =
     let index = c .before .index in
     let marks = entry .args .marks .now in
     let i = index .result in
-    λ n w h. subst (λ (x : ℕ). Pictured n (orBit marks (i / 64) (i % 64)) (set (marksOf n marks) x 1)) (index .ensures) (pictured-marked n marks i w (omega (arith, index .ensures)))
+    λ n w h. subst (λ (x : ℕ). HasMarks n (orBit marks (i / 64) (i % 64)) (set (marksOf n marks) x 1)) (index .ensures) (has-marked n marks i w (omega (arith, index .ensures)))
 
 pub set-marked-spec : {M : Type 1} → statement M
 set-marked-spec =

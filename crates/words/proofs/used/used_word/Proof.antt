@@ -1,5 +1,5 @@
 -- `words::used::used_word` meets its contract: the bits are those of the cells from `c` on. Assumes nothing.
-use Prim.Native.Nat.{_-_}
+use Prim.Native.Nat.{_-_, _*_}
 use native.Mathlib.Omega.{arith}
 use borrow.Author.Needs.{needs}
 use Rattle.words.proofs.UsedWords.{used-most, Upper, upper-none, upper-room, upper-more, upper-all}
@@ -7,10 +7,13 @@ use Rattle.words.proofs.used.used_word.Statement.{statement}
 use Rattle.words.proofs.used.used_word.Tie as tie
 
 abbrev Inv-loop : tie.InvT-loop
-Inv-loop kind start word₀ c₀ word c = Upper kind start c₀ c word
+Inv-loop kind j start word₀ c₀ word c = Upper kind (64 * j) c₀ c word
 
 abbrev μ-loop : tie.MeasureT-loop
-μ-loop kind start word₀ c₀ word c = c
+μ-loop kind j start word₀ c₀ word c = c
+
+mul-start : tie.Need-mul-start Inv-loop μ-loop
+mul-start c = omega arith
 
 word-end-requires : tie.Need-word-end-requires Inv-loop μ-loop
 word-end-requires c κs = search needs
@@ -18,7 +21,7 @@ word-end-requires c κs = search needs
 loop-holds : tie.Need-loop-holds Inv-loop μ-loop
 loop-holds c =
     let entry = c .before .before in
-    upper-none (entry .args .kind .now) (entry .args .start) (c .word-end .result) (c .word-end .ensures)
+    upper-none (entry .args .kind .now) (64 * entry .args .j) (c .word-end .result) (c .word-end .ensures)
 
 sub-c : tie.Need-sub-c Inv-loop μ-loop
 sub-c c = omega arith
@@ -59,6 +62,7 @@ used-word-spec =
     (tie.spec
     Inv-loop
     μ-loop
+    mul-start
     word-end-requires
     loop-holds
     sub-c

@@ -16,9 +16,6 @@ abbrev μ-loop : tie.MeasureT-loop
 loop-holds : tie.Need-loop-holds Inv-loop μ-loop
 loop-holds c = (omega arith, refl, λ d l. absurd (omega arith))
 
-mul-used-word : tie.Need-mul-used-word Inv-loop μ-loop
-mul-used-word c = omega arith
-
 used-word-requires : tie.Need-used-word-requires Inv-loop μ-loop
 used-word-requires c κs = omega arith
 
@@ -61,7 +58,6 @@ write-used-spec =
     Inv-loop
     μ-loop
     loop-holds
-    mul-used-word
     used-word-requires
     mul-words
     slice-write-words
