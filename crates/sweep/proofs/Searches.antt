@@ -1,6 +1,6 @@
 -- Laws of the loops that go from one unmarked used cell to the next: the cells between are no garbage, and each turn leaves fewer.
 -- Assumes nothing.
-use Prim.Native.Nat.{ℕ, suc, _-_, _*_, _/_, _≤_, _<_}
+use Prim.Native.Nat.{ℕ, suc, _-_, _*_, _/_, _^_, _≤_, _<_}
 use native.Mathlib.Omega.{arith}
 use mathlib.Core.List.{List, []}
 use mathlib.Core.Bool.{Bool, true, false, not, _&&_, cond, and-true}
@@ -19,7 +19,7 @@ use Rattle.words.specs.declared.search.Rest.{Rest}
 use Rattle.words.specs.declared.search.Found.{Found}
 use Rattle.words.specs.declared.search.Found.the-variants as FoundIs
 use Rattle.words.specs.Search.{AllFrom, FoundFrom, FoundIn}
-use Rattle.sweep.specs.Phases.{isFinalizable, isDue, isGarbage, garbageOf, Searchable, MarkedUsed, Words}
+use Rattle.sweep.specs.Phases.{isFinalizable, isDue, isGarbage, garbageOf, Searchable, MarkedUsed, Scratch}
 
 -- how many cells there are from the found one on
 abbrev pub left : ℕ → Found → ℕ
@@ -27,7 +27,7 @@ left n (FoundIs.Is cell rest) = n - cell .0
 left n FoundIs.Not = 0
 
 -- the words of the used cells, written, and those of the marked ones
-pub searchable : {kind used used′ marks : List ℕ} → Words (length kind) used marks → length used′ ≡ length used → UsedBits kind used′ → Searchable kind used′ (markedOf marks)
+pub searchable : {kind used used′ marks : List ℕ} → Scratch (length kind) used marks → length used′ ≡ length used → UsedBits kind used′ → Searchable kind used′ (markedOf marks)
 searchable w e bits = record {
   some = w .unmarked .fits .some;
   room = omega (arith, w .room);
@@ -47,9 +47,13 @@ searchable-on marks marks′ s e = record {
 }
 
 module _ {kind used marked : List ℕ} (s : Searchable kind used marked) where
-  -- what a search asks
-  pub search-asks : ((length kind ≤ 64 * length used) × (length kind ≤ 64 * length marked))
-  search-asks = (s .room, omega (arith, s .room, s .same))
+  -- what a search asks: of all cells, and of those from the word at `base` on
+  pub some-words : (0 < length used) × (0 < length marked)
+  some-words = omega (arith, s .some, s .room, s .same)
+
+  pub search-asks : {base : ℕ} → base < length kind
+      → ((length kind ≤ 64 * length used) × (length kind ≤ 64 * length marked)) × ((base < length kind) × (length kind < 2 ^ 63))
+  search-asks inside = ((s .room, omega (arith, s .room, s .same)), (inside, omega (arith, s .room, s .few)))
 
   -- the first search
   pub found-first : {rest : Rest} (found : Found) → AllFrom used marked 0 rest → FoundIn used marked (length kind) rest found → FoundFrom used marked (length kind) 0 found

@@ -28,11 +28,11 @@ use Rattle.laws.specs.Collect.Left.{unlink-covered}
 use Rattle.laws.specs.Words.Cells.{getD-bitsOf}
 use Rattle.laws.specs.Words.Marks.{WordsFor, HasMarks, marks-zeros, words-zeros, marked-bits, marked-spare}
 use Rattle.marking.specs.Steps.{cellsOf}
-use Rattle.sweep.specs.Phases.{isRescued, dueOf, garbageOf, rescuedOf, MarkedUsed, Words, QueueRoom, Queued, Unlinked, Same, Freed, Decided, MarkedQueued, rounds, Swept, Collected}
+use Rattle.sweep.specs.Phases.{isRescued, dueOf, garbageOf, rescuedOf, MarkedUsed, Scratch, QueueRoom, Queued, Unlinked, Same, Freed, Decided, MarkedQueued, rounds, Swept, Collected}
 
 -- sixteen words for the used cells, and twice as many for the marks, all zero
-pub start-words : (n : ℕ) (used marks : List ℕ) → 0 < n → n ≤ 1024 → length used ≡ 16 → marks ≡ replicate 32 0 → Words n used marks
-start-words n used marks some few size zeros = rw zeros (record {
+pub start-scratch : (n : ℕ) (used marks : List ℕ) → 0 < n → n ≤ 1024 → length used ≡ 16 → marks ≡ replicate 32 0 → Scratch n used marks
+start-scratch n used marks some few size zeros = rw zeros (record {
   room = omega arith;
   same = sym size;
   few = omega arith;

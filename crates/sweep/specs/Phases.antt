@@ -57,8 +57,8 @@ pub record Searchable (kind used marked : List ℕ) : Type 0 where
 abbrev pub MarkedUsed : List ℕ → List ℕ → Type 0
 MarkedUsed kind marked = (c : ℕ) → bitOf marked c ≡ 1 → 1 ≤ getD kind c 0
 
--- words for the used ones of n cells, whatever stands there, and for marks, all unmarked
-pub record Words (n : ℕ) (used marks : List ℕ) : Type 0 where
+-- the scratch of a COLLECT on n cells: words for the used ones, whatever stands there, and for marks, all unmarked
+pub record Scratch (n : ℕ) (used marks : List ℕ) : Type 0 where
   pub room : n ≤ 64 * length used
   pub same : length (markedOf marks) ≡ length used
   pub few : 64 * length used < 2 ^ 63

@@ -27,7 +27,7 @@ ghost use Rattle.laws.specs.Calls.Inner.{Ran};
 ghost use Rattle.laws.specs.Sound.But.{PlainSlots, SoundBut};
 ghost use Rattle.laws.specs.Collect.Unlinking.{SlotsCovered};
 ghost use Rattle.laws.specs.Words.Marks.{HasMarks};
-ghost use Rattle.sweep.specs.Phases.{garbageOf, Searchable, MarkedUsed, Words, Same, MarkedQueued, Swept, Collected};
+ghost use Rattle.sweep.specs.Phases.{garbageOf, Searchable, MarkedUsed, Scratch, Same, MarkedQueued, Swept, Collected};
 
 // Marks what roots and queue reach; what is left and wants its finalizer joins the queue; marks from there. Answers how many joined.
 fn mark_and_queue(
@@ -97,7 +97,7 @@ fn mark_and_sweep(
     freed: &mut [u16],
 ) -> Answer
     requires { ⌜ SoundBut (tables (now kind) (now flags) (now count) (now slots) (now roots) (now queue) (now control)) [] ⌝ }
-    requires { ⌜ Words (length (now kind)) (now used) (now marks) ⌝ }
+    requires { ⌜ Scratch (length (now kind)) (now used) (now marks) ⌝ }
     ensures { λ r. ⌜ Collected (tables (now (kind .entry)) (now (flags .entry)) (now (count .entry)) (now (slots .entry)) (now (roots .entry)) (now (queue .entry)) (now (control .entry))) (now (freed .entry))
         (tables (now (kind .exit)) (now (flags .exit)) (now (count .exit)) (now (slots .exit)) (now (roots .entry)) (now (queue .exit)) (now (control .exit))) (now (freed .exit)) r ⌝ }
 {

@@ -16,16 +16,16 @@ use Rattle.words.specs.Search.{OpenWord, Ahead}
 use Rattle.words.proofs.OpenWords.{ahead-word}
 
 -- no cell from `from` up to `at` is open, and those from `at` on are ahead
-pub record Reached (words marks : List ℕ) (n from base bits : ℕ) : Type 0 where
+pub record Searched (words marks : List ℕ) (n from base bits : ℕ) : Type 0 where
   pub at : ℕ
   pub on : from ≤ at
   pub passed : (d : ℕ) → from ≤ d → d < at → isOpen words marks d ≡ false
   pub ahead : Ahead words marks n at base bits
 
-pub reached-start : {words marks : List ℕ} {n from base bits : ℕ} → Ahead words marks n from base bits → Reached words marks n from base bits
-reached-start {from = from} a = record { at = from; on = omega arith; passed = λ d g l. absurd (omega arith); ahead = a }
+pub searched-start : {words marks : List ℕ} {n from base bits : ℕ} → Ahead words marks n from base bits → Searched words marks n from base bits
+searched-start {from = from} a = record { at = from; on = omega arith; passed = λ d g l. absurd (omega arith); ahead = a }
 
-module _ {words marks : List ℕ} {n from base bits : ℕ} (r : Reached words marks n from base bits) where
+module _ {words marks : List ℕ} {n from base bits : ℕ} (r : Searched words marks n from base bits) where
   inside : from ≤ n
   inside = omega (arith, r .on, r .ahead .within)
 
@@ -50,8 +50,8 @@ module _ {words marks : List ℕ} {n from base bits : ℕ} (r : Reached words ma
     no-bits i l = ap (λ (x : ℕ). bit x i) z ∙ bit-none i
 
     -- the search goes on in the next word
-    pub reached-next : {word : ℕ} → base + 64 < n → OpenWord words marks ((base + 64) / 64) word → Reached words marks n from (base + 64) word
-    reached-next l o = record {
+    pub searched-next : {word : ℕ} → base + 64 < n → OpenWord words marks ((base + 64) / 64) word → Searched words marks n from (base + 64) word
+    searched-next l o = record {
       at = base + 64;
       on = omega (arith, r .on, r .ahead .near);
       passed = passed-to 64 no-bits (omega arith);
@@ -59,8 +59,8 @@ module _ {words marks : List ℕ} {n from base bits : ℕ} (r : Reached words ma
     }
 
     -- or there is none
-    pub reached-end : n ≤ base + 64 → n ≤ nextOpen words marks from n
-    reached-end l = omega (arith, none-left 64 no-bits (omega arith) l)
+    pub searched-end : n ≤ base + 64 → n ≤ nextOpen words marks from n
+    searched-end l = omega (arith, none-left 64 no-bits (omega arith) l)
 
   -- a word that has a bit has an open cell: the lowest
   module _ (some : bits ≡ 0 → ⊥) (fits : bits < 2 ^ 64) where

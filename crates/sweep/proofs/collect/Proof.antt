@@ -4,7 +4,7 @@ use mathlib.Core.Path.{refl}
 use lib.ListN.{length}
 use Rattle.laws.specs.Sound.Facts.{ready-facts}
 use Rattle.sweep.proofs.Collecting.{collect-ran}
-use Rattle.sweep.proofs.Whole.{start-words}
+use Rattle.sweep.proofs.Whole.{start-scratch}
 use borrow.Author.Needs.{needs}
 use Rattle.sweep.proofs.collect.Statement.{statement}
 use Rattle.sweep.proofs.collect.Tie as tie
@@ -16,7 +16,7 @@ mark-and-sweep-requires c κs =
     .before in
     let unmarked = c .before .before .before .before .before .before .before .before .before .unmarked in
     let sound = ready-facts (entry .pre) in
-    (sound, start-words (length (entry .args .kind .now)) _ (unmarked .result) (omega (arith, sound .fit .some)) (sound .fit .small) refl (unmarked .ensures .0))
+    (sound, start-scratch (length (entry .args .kind .now)) _ (unmarked .result) (omega (arith, sound .fit .some)) (sound .fit .small) refl (unmarked .ensures .0))
 
 same-length : tie.Need-same-length
 same-length c =

@@ -5,19 +5,19 @@ use mathlib.Core.Path.{_∙_}
 use borrow.Author.Needs.{needs}
 use lib.Count.{trailing-le}
 use Rattle.words.specs.Search.{Ahead}
-use Rattle.words.proofs.Ahead.{Reached, reached-start, reached-next, reached-end, found-at, found-none, found-left}
+use Rattle.words.proofs.Ahead.{Searched, searched-start, searched-next, searched-end, found-at, found-none, found-left}
 use Rattle.words.proofs.search.next_open.Statement.{statement}
 use Rattle.words.proofs.search.next_open.Tie as tie
 
 abbrev Inv-loop : tie.InvT-loop
 Inv-loop words marks cells base₀ bits₀ base bits =
-    (base < cells) × (bits < 2 ^ 64) × ((from : ℕ) → Ahead words marks cells from base₀ bits₀ → Reached words marks cells from base bits)
+    (base < cells) × (bits < 2 ^ 64) × ((from : ℕ) → Ahead words marks cells from base₀ bits₀ → Searched words marks cells from base bits)
 
 abbrev μ-loop : tie.MeasureT-loop
 μ-loop words marks cells base₀ bits₀ base bits = cells - base
 
 loop-holds : tie.Need-loop-holds Inv-loop μ-loop
-loop-holds c = (omega arith, omega arith, λ from a. reached-start a)
+loop-holds c = (omega arith, omega arith, λ from a. searched-start a)
 
 add-base : tie.Need-add-base Inv-loop μ-loop
 add-base c = omega arith
@@ -27,7 +27,7 @@ returns c =
     let loop = c .before .before .loop in
     let loop-test = c .before .loop-test in
     let if1 = c .if1 in
-    λ from a. reached-end (loop .inv .2 from a) (loop-test .taken) (if1 .taken)
+    λ from a. searched-end (loop .inv .2 from a) (loop-test .taken) (if1 .taken)
 
 open-bits-requires : tie.Need-open-bits-requires Inv-loop μ-loop
 open-bits-requires c κs = omega arith
@@ -41,7 +41,7 @@ loop-again c =
     let loop = c .before .before .before .loop in
     let open-bits = c .open-bits in
     let none = loop-test .taken in
-    (omega arith, omega arith, λ from a. reached-next (loop .inv .2 from a) none (omega arith) (open-bits .ensures))
+    (omega arith, omega arith, λ from a. searched-next (loop .inv .2 from a) none (omega arith) (open-bits .ensures))
 
 cast-of : tie.Need-cast-of Inv-loop μ-loop
 cast-of c =
@@ -75,10 +75,10 @@ returns-3 c =
     let loop-test = c .before .before .before .before .loop-test in
     let is = rw (cell .given .1) at (of .ensures) in
     λ from a.
-    let reached = loop .inv .2 from a in
+    let searched = loop .inv .2 from a in
     let some = loop-test .left in
-    let at = found-at reached some (loop .inv .1) (is .1) in
-    (is .0 ∙ at, omega arith, found-left reached some (loop .inv .1) (omega arith))
+    let at = found-at searched some (loop .inv .1) (is .1) in
+    (is .0 ∙ at, omega arith, found-left searched some (loop .inv .1) (omega arith))
 
 pub next-open-spec : {M : Type 1} → statement M
 next-open-spec =
