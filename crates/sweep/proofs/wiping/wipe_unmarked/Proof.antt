@@ -91,7 +91,7 @@ next-open-requires-2 c κs =
     .before .before .loop in
     let words = entry .pre .1 .0 in
     let is = rw (found .given .1) at (loop .inv .2) in
-    search-asks words (is .2 .inside)
+    omega (arith, search-asks words (is .2 .inside))
 
 loop-less : tie.Need-loop-less Inv-loop μ-loop
 loop-less c =
