@@ -1,4 +1,4 @@
-/* The same heap in C: the same rules, the same full check on every call, the same tables. */
+/* The same heap in C: the same rules, the same full check on every call, one for a whole batch, the same tables. */
 #include "heap.h"
 
 #include <string.h>
@@ -14,12 +14,7 @@ typedef struct {
 
 static vek_answer refuse(uint16_t why) { return (vek_answer){why, 0, 0, 0}; }
 
-/* The list has so many freed cells; behind them it becomes 0. */
-static inline vek_answer done(const heap *h, size_t freed, unsigned queued, size_t cell)
-{
-    memset(h->freed + freed, 0, (h->n - freed) * sizeof *h->freed);
-    return (vek_answer){0, freed, queued, cell};
-}
+static inline vek_answer done(size_t freed, unsigned queued, size_t cell) { return (vek_answer){0, freed, queued, cell}; }
 
 int c_fits(VEK_TABLES)
 {
@@ -154,14 +149,28 @@ static size_t release(heap *h, size_t listed, unsigned r)
     return head;
 }
 
-static vek_answer write_ref(heap *h, uint16_t *place, unsigned r)
+/* The last reference to a cell comes off, at the end of a call. */
+static vek_answer take_off(heap *h, unsigned r)
 {
-    unsigned queued = h->control[0], old = *place;
+    unsigned queued = h->control[0];
+    size_t freed = release(h, 0, r);
+    return done(freed, h->control[0] - queued, 0);
+}
+
+/* Most references that are written over are none, or not the last: this much is a part of each call that writes one. */
+static inline vek_answer write_ref(heap *h, uint16_t *place, unsigned r)
+{
+    unsigned old = *place;
     if (r)
         h->count[r - 1]++;
     *place = r;
-    size_t freed = release(h, 0, old);
-    return done(h, freed, h->control[0] - queued, 0);
+    if (!old)
+        return done(0, 0, 0);
+    if (h->count[old - 1] > 1) {
+        h->count[old - 1]--;
+        return done(0, 0, 0);
+    }
+    return take_off(h, old);
 }
 
 /* ---- collecting */
@@ -238,10 +247,101 @@ static vek_answer collect(heap *h)
         for (size_t c = 0; c < n; c++)
             if (marks[c] != UNMARKED && h->flags[c] == 3)
                 h->flags[c] = 1;
-    return done(h, freed, all - old, 0);
+    return done(freed, all - old, 0);
 }
 
-/* ---- the calls */
+/* ---- the calls on a sound heap: what a call frees it lists, and behind the list stands anything */
+
+static inline vek_answer new(heap *h, size_t root, size_t new_kind, size_t finalizer)
+{
+    if (root >= VEK_ROOTS || new_kind < 1 || new_kind > 3 || finalizer > 1 || (finalizer == 1 && new_kind != 1))
+        return refuse(VEK_NUMBER);
+    if (h->roots[root])
+        return refuse(VEK_TAKEN);
+    size_t c = 0;
+    while (c < h->n && h->kind[c])
+        c++;
+    if (c == h->n)
+        return refuse(VEK_FULL);
+    h->kind[c] = new_kind;
+    h->flags[c] = finalizer;
+    h->count[c] = 1;
+    h->roots[root] = c + 1;
+    return done(0, 0, c);
+}
+
+static inline vek_answer clear(heap *h, size_t root)
+{
+    if (root >= VEK_ROOTS)
+        return refuse(VEK_NUMBER);
+    return write_ref(h, h->roots + root, 0);
+}
+
+static inline vek_answer copy(heap *h, size_t to, size_t from)
+{
+    if (to >= VEK_ROOTS || from >= VEK_ROOTS)
+        return refuse(VEK_NUMBER);
+    return write_ref(h, h->roots + to, h->roots[from]);
+}
+
+static inline vek_answer load(heap *h, size_t to, size_t object, size_t slot)
+{
+    if (to >= VEK_ROOTS || object >= VEK_ROOTS || slot >= VEK_SLOTS)
+        return refuse(VEK_NUMBER);
+    size_t r = h->roots[object];
+    if (!r)
+        return refuse(VEK_EMPTY);
+    if (h->kind[r - 1] != VEK_OBJECT)
+        return refuse(VEK_KIND);
+    return write_ref(h, h->roots + to, h->slots[VEK_SLOTS * (r - 1) + slot]);
+}
+
+static inline vek_answer store(heap *h, size_t object, size_t slot, size_t from)
+{
+    if (object >= VEK_ROOTS || slot >= VEK_SLOTS || from >= VEK_ROOTS)
+        return refuse(VEK_NUMBER);
+    size_t r = h->roots[object];
+    if (!r)
+        return refuse(VEK_EMPTY);
+    if (h->kind[r - 1] != VEK_OBJECT)
+        return refuse(VEK_KIND);
+    return write_ref(h, h->slots + VEK_SLOTS * (r - 1) + slot, h->roots[from]);
+}
+
+static inline vek_answer start(heap *h, size_t root)
+{
+    if (root >= VEK_ROOTS)
+        return refuse(VEK_NUMBER);
+    if (h->roots[root])
+        return refuse(VEK_TAKEN);
+    if (h->control[1])
+        return refuse(VEK_BUSY);
+    if (!h->control[0])
+        return refuse(VEK_NONE);
+    unsigned head = h->queue[0];
+    h->count[head - 1]++;
+    h->roots[root] = head;
+    h->control[1] = root + 1;
+    return done(0, 0, 0);
+}
+
+static inline vek_answer finish(heap *h)
+{
+    if (!h->control[1])
+        return refuse(VEK_IDLE);
+    size_t root = h->control[1] - 1, len = h->control[0];
+    unsigned head = h->queue[0], old = h->roots[root];
+    memmove(h->queue, h->queue + 1, (len - 1) * sizeof *h->queue);
+    h->queue[len - 1] = 0;
+    h->control[0] = len - 1;
+    h->control[1] = 0;
+    h->flags[head - 1] = VEK_FINALIZED;
+    h->roots[root] = 0;
+    size_t listed = release(h, release(h, 0, old), head);
+    return done(listed, h->control[0] - (len - 1), 0);
+}
+
+/* ---- the calls on any tables */
 
 #define FITS                                                                                         \
     c_fits(kind, kind_len, flags, flags_len, count, count_len, slots, slots_len, roots, roots_len,   \
@@ -253,6 +353,14 @@ static vek_answer collect(heap *h)
         return refuse(VEK_SIZE);                                                                     \
     if (!sound(&h))                                                                                  \
         return refuse(VEK_DAMAGED);
+
+/* Behind the list of a call done the table becomes 0. */
+static inline vek_answer listed(const heap *h, vek_answer a)
+{
+    if (!a.refused)
+        memset(h->freed + a.freed, 0, (h->n - a.freed) * sizeof *h->freed);
+    return a;
+}
 
 vek_answer c_fresh(VEK_TABLES)
 {
@@ -271,99 +379,101 @@ vek_answer c_fresh(VEK_TABLES)
 vek_answer c_new(VEK_TABLES, VEK_FREED, size_t root, size_t new_kind, size_t finalizer)
 {
     SOUND_HEAP
-    if (root >= VEK_ROOTS || new_kind < 1 || new_kind > 3 || finalizer > 1 || (finalizer == 1 && new_kind != 1))
-        return refuse(VEK_NUMBER);
-    if (roots[root])
-        return refuse(VEK_TAKEN);
-    size_t c = 0;
-    while (c < h.n && kind[c])
-        c++;
-    if (c == h.n)
-        return refuse(VEK_FULL);
-    kind[c] = new_kind;
-    flags[c] = finalizer;
-    count[c] = 1;
-    roots[root] = c + 1;
-    return done(&h, 0, 0, c);
+    return listed(&h, new(&h, root, new_kind, finalizer));
 }
 
 vek_answer c_clear(VEK_TABLES, VEK_FREED, size_t root)
 {
     SOUND_HEAP
-    if (root >= VEK_ROOTS)
-        return refuse(VEK_NUMBER);
-    return write_ref(&h, roots + root, 0);
+    return listed(&h, clear(&h, root));
 }
 
 vek_answer c_copy(VEK_TABLES, VEK_FREED, size_t to, size_t from)
 {
     SOUND_HEAP
-    if (to >= VEK_ROOTS || from >= VEK_ROOTS)
-        return refuse(VEK_NUMBER);
-    return write_ref(&h, roots + to, roots[from]);
+    return listed(&h, copy(&h, to, from));
 }
 
 vek_answer c_load(VEK_TABLES, VEK_FREED, size_t to, size_t object, size_t slot)
 {
     SOUND_HEAP
-    if (to >= VEK_ROOTS || object >= VEK_ROOTS || slot >= VEK_SLOTS)
-        return refuse(VEK_NUMBER);
-    if (!roots[object])
-        return refuse(VEK_EMPTY);
-    if (kind[roots[object] - 1] != 1)
-        return refuse(VEK_KIND);
-    return write_ref(&h, roots + to, slots[VEK_SLOTS * (roots[object] - 1) + slot]);
+    return listed(&h, load(&h, to, object, slot));
 }
 
 vek_answer c_store(VEK_TABLES, VEK_FREED, size_t object, size_t slot, size_t from)
 {
     SOUND_HEAP
-    if (object >= VEK_ROOTS || slot >= VEK_SLOTS || from >= VEK_ROOTS)
-        return refuse(VEK_NUMBER);
-    if (!roots[object])
-        return refuse(VEK_EMPTY);
-    if (kind[roots[object] - 1] != 1)
-        return refuse(VEK_KIND);
-    return write_ref(&h, slots + VEK_SLOTS * (roots[object] - 1) + slot, roots[from]);
+    return listed(&h, store(&h, object, slot, from));
 }
 
 vek_answer c_collect(VEK_TABLES, VEK_FREED)
 {
     SOUND_HEAP
-    return collect(&h);
+    return listed(&h, collect(&h));
 }
 
 vek_answer c_start(VEK_TABLES, VEK_FREED, size_t root)
 {
     SOUND_HEAP
-    if (root >= VEK_ROOTS)
-        return refuse(VEK_NUMBER);
-    if (roots[root])
-        return refuse(VEK_TAKEN);
-    if (control[1])
-        return refuse(VEK_BUSY);
-    if (!control[0])
-        return refuse(VEK_NONE);
-    count[queue[0] - 1]++;
-    roots[root] = queue[0];
-    control[1] = root + 1;
-    return done(&h, 0, 0, 0);
+    return listed(&h, start(&h, root));
 }
 
 vek_answer c_finish(VEK_TABLES, VEK_FREED)
 {
     SOUND_HEAP
-    if (!control[1])
-        return refuse(VEK_IDLE);
-    size_t root = control[1] - 1, len = control[0];
-    unsigned head = queue[0], old = roots[root];
-    memmove(queue, queue + 1, (len - 1) * sizeof *queue);
-    queue[len - 1] = 0;
-    control[0] = len - 1;
-    control[1] = 0;
-    flags[head - 1] = 3;
-    roots[root] = 0;
-    unsigned queued = control[0];
-    size_t listed = release(&h, release(&h, 0, old), head);
-    return done(&h, listed, control[0] - queued, 0);
+    return listed(&h, finish(&h));
+}
+
+/* ---- a batch */
+
+/* What a record asks for. Whether its unused numbers are 0 is asked where it is known which they are. */
+static inline vek_answer obey(heap *h, vek_record r)
+{
+    unsigned a = r.first, b = r.second, c = r.third;
+    switch (r.call) {
+    case 1: return new(h, a, b, c);
+    case 2: return b | c ? refuse(VEK_LINE) : clear(h, a);
+    case 3: return c ? refuse(VEK_LINE) : copy(h, a, b);
+    case 4: return load(h, a, b, c);
+    case 5: return store(h, a, b, c);
+    case 6: return a | b | c ? refuse(VEK_LINE) : collect(h);
+    case 7: return b | c ? refuse(VEK_LINE) : start(h, a);
+    case 8: return a | b | c ? refuse(VEK_LINE) : finish(h);
+    default: return refuse(VEK_LINE);
+    }
+}
+
+/* Could a total pass its end? */
+static int ends(uint64_t total, size_t records) { return total > UINT64_MAX - (uint64_t)VEK_CELLS_MAX * records; }
+
+static int some_ends(const vek_totals *t, size_t records)
+{
+    return ends(t->done, records) || ends(t->refused, records) || ends(t->freed, records) || ends(t->queued, records);
+}
+
+/* The heap is checked once. No list of freed cells is asked for, so that the work list of a take-off stands here. */
+vek_answer c_batch(VEK_TABLES, const vek_record *records, size_t records_len, vek_answer *answers, size_t answers_len, vek_totals *totals)
+{
+    uint16_t work[VEK_CELLS_MAX];
+    heap h = {kind, flags, count, slots, roots, queue, control, work, kind_len};
+    if (!FITS || records_len != answers_len || records_len > VEK_RECORDS_MAX)
+        return refuse(VEK_SIZE);
+    if (!sound(&h))
+        return refuse(VEK_DAMAGED);
+    if (some_ends(totals, records_len))
+        return refuse(VEK_TOTAL);
+    vek_totals t = *totals;
+    for (size_t i = 0; i < records_len; i++) {
+        vek_answer a = obey(&h, records[i]);
+        answers[i] = a;
+        if (a.refused) {
+            t.refused++;
+            continue;
+        }
+        t.done++;
+        t.freed += a.freed;
+        t.queued += a.queued;
+    }
+    *totals = t;
+    return (vek_answer){0, 0, 0, 0};
 }

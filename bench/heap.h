@@ -14,6 +14,7 @@ vek_answer c_store(VEK_TABLES, VEK_FREED, size_t object, size_t slot, size_t fro
 vek_answer c_collect(VEK_TABLES, VEK_FREED);
 vek_answer c_start(VEK_TABLES, VEK_FREED, size_t root);
 vek_answer c_finish(VEK_TABLES, VEK_FREED);
+vek_answer c_batch(VEK_TABLES, const vek_record *records, size_t records_len, vek_answer *answers, size_t answers_len, vek_totals *totals);
 vek_audited c_audit(VEK_TABLES, int32_t *differences, size_t differences_len, vek_report report);
 uint8_t *c_cell_line(uint8_t *out, uint32_t heap, uint32_t cell, int32_t difference);
 

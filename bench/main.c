@@ -1,5 +1,5 @@
-/* Runs one case of the benchmark on one of the two heaps, and prints the number of calls, what the last one answered, and its
-   list; callgrind counts what happens inside `measured` and its like. */
+/* Runs one case of the benchmark on one of the two heaps, and prints the number of calls, what the last one answered, its list,
+   and the answers to the records; callgrind counts what happens inside `measured` and its like. */
 #include "heap.h"
 
 #include <stdio.h>
@@ -13,6 +13,12 @@
 static VEK_STORAGE(N) heap;
 
 static int32_t differences[N];
+
+/* The records of a batch, and their answers. */
+enum { RECORDS = 3000 };
+
+static vek_record records[RECORDS];
+static vek_answer answers[RECORDS];
 
 static int proved;
 
@@ -46,6 +52,15 @@ static vek_answer call(int op, size_t a, size_t b, size_t c)
 }
 
 __attribute__((noinline)) vek_answer measured(int op, size_t a, size_t b, size_t c) { return call(op, a, b, c); }
+
+/* All records as one batch; the answer has the totals, its cell the calls that were done. */
+__attribute__((noinline)) vek_answer measured_batch(void)
+{
+    vek_totals t = {0, 0, 0, 0};
+    vek_answer a = proved ? vek_batch(VEK_LEND(heap), VEK_LEND_TABLE(records), VEK_LEND_TABLE(answers), &t)
+                          : c_batch(VEK_LEND(heap), VEK_LEND_TABLE(records), VEK_LEND_TABLE(answers), &t);
+    return (vek_answer){a.refused, (uint16_t)t.freed, (uint16_t)t.queued, (uint16_t)t.done};
+}
 
 /* The audit of either heap; the answer is a digest of its row. */
 __attribute__((noinline)) vek_answer measured_audit(void)
@@ -184,21 +199,41 @@ static void write_tables(void)
     write_table(VEK_LEND_TABLE(heap.control));
 }
 
-/* The list of freed cells as one number, in which their order counts. */
-static unsigned digest(void)
+/* A table as one number, in which the order of its entries counts. */
+static unsigned digest(const uint16_t *table, size_t len)
 {
     unsigned all = 0;
-    for (size_t i = 0; i < N; i++)
-        all = all * 31 + heap.freed[i];
+    for (size_t i = 0; i < len; i++)
+        all = all * 31 + table[i];
     return all;
 }
 
-/* What becomes of a call of the morning: it is made, or written as a line for the program. */
+/* The answers to the records as one number. */
+static unsigned answered(void)
+{
+    unsigned all = 0;
+    for (size_t i = 0; i < RECORDS; i++) {
+        uint16_t entries[] = {answers[i].refused, answers[i].freed, answers[i].queued, answers[i].cell};
+        all = all * 31 + digest(VEK_LEND_TABLE(entries));
+    }
+    return all;
+}
+
+/* What becomes of a call of the morning: it is made, written as a line for the program, or kept as a record. */
 typedef void action(int op, size_t a, size_t b, size_t c);
 
 static void make(int op, size_t a, size_t b, size_t c) { measured(op, a, b, c); }
 
 static void write_line(int op, size_t a, size_t b, size_t c) { printf("%d,%zu,%zu,%zu\r\n", op, a, b, c); }
+
+static size_t kept;
+
+/* The next record, if there is room for one. */
+static void keep(int op, size_t a, size_t b, size_t c)
+{
+    if (kept < RECORDS)
+        records[kept++] = (vek_record){(uint16_t)op, (uint16_t)a, (uint16_t)b, (uint16_t)c};
+}
 
 /* A basket is made, filled, read, and thrown away; the number of calls. */
 static unsigned basket(action *one)
@@ -219,6 +254,22 @@ static unsigned morning(action *one)
     for (unsigned round = 0; round < 20; round++)
         calls += basket(one);
     return calls;
+}
+
+/* Mornings, one after another, until there is no room for more; the number of records. */
+static unsigned fill_records(void)
+{
+    while (kept < RECORDS)
+        morning(keep);
+    return (unsigned)kept;
+}
+
+/* The records as calls, one by one; the last answer. */
+static vek_answer make_records(void)
+{
+    for (size_t i = 0; i < kept; i++)
+        answers[i] = measured(records[i].call, records[i].first, records[i].second, records[i].third);
+    return answers[kept - 1];
 }
 
 int main(int argc, char **argv)
@@ -262,6 +313,10 @@ int main(int argc, char **argv)
         return 0;
     } else if (!strcmp(name, "basket")) {
         calls = morning(make);
+    } else if (!strcmp(name, "batch")) {
+        calls = fill_records(), a = measured_batch();
+    } else if (!strcmp(name, "singly")) {
+        calls = fill_records(), a = make_records();
     } else if (!strcmp(name, "lines")) {
         morning(write_line);
         return 0;
@@ -272,6 +327,6 @@ int main(int argc, char **argv)
         fprintf(stderr, "%s: refused %u\n", name, a.refused);
         return 1;
     }
-    printf("%u %u %u %u\n", calls, a.freed, a.queued, digest());
+    printf("%u %u %u %u %u %u\n", calls, a.freed, a.queued, a.cell, digest(VEK_LEND_TABLE(heap.freed)), answered());
     return 0;
 }

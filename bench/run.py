@@ -31,11 +31,13 @@ CASES = [
     ("clear-chain", "CLEAR that frees 1,024", 1.00),
     ("clear-strings", "CLEAR that frees an object with 8 strings", 0.90),
     ("collect-strings", "COLLECT that frees 896 strings, 128 objects", 0.90),
+    ("batch", "a batch of 3,000 basket calls, the check once", 1.00),
     ("audit", "the audit of a heap, two counts of three wrong", 1.00),
 ]
 CELL_LINE = "a cell's line of the audit's report, on average", 1.20
 UNCHECKED = 700  # the most instructions of a basket call without its check
 LINE = 1000  # and of a line of the program
+BATCH = 900_000  # and of a batch of 3,000 basket calls, its check included
 
 
 def built(folder, cells):
@@ -134,10 +136,23 @@ def averages(folder):
     return sum(instructions > goal for _, instructions, goal in rows)
 
 
+def baskets(folder):
+    """What 3,000 basket calls take, made one by one and as one batch, which answers the same; the number of goals that are missed."""
+    program = built(folder, CELLS)
+    singly, said_singly, _ = measured(folder, program, "proved", "singly")
+    batch, said_batch, _ = measured(folder, program, "proved", "batch")
+    assert said_singly[-1] == said_batch[-1], (said_singly, said_batch)
+    print(f"{'3,000 basket calls, 1,024 cells':<50} {'':>7} {'proved':>11} {'':>6} {'goal':>7}")
+    print(f"{'one by one, each with its check and its list':<50} {'':>7} {singly:>11,}")
+    print(f"{'in one batch':<50} {'':>7} {batch:>11,} {'':>6} {BATCH:>7,}")
+    return int(batch > BATCH)
+
+
 def main():
     subprocess.run(["make", *(path.relative_to(TOP) for path in (ARCHIVE, PROGRAM, AUDITOR))], cwd=TOP, check=True, stdout=subprocess.DEVNULL)
     with tempfile.TemporaryDirectory() as name:
-        missed = compare(pathlib.Path(name)) + averages(pathlib.Path(name))
+        folder = pathlib.Path(name)
+        missed = compare(folder) + averages(folder) + baskets(folder)
     print("all goals reached" if missed == 0 else f"{missed} goals missed")
     return 0
 

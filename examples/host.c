@@ -1,5 +1,5 @@
-/* A small engine on the heap: it fills a basket, throws it away, runs a finalizer, and sweeps a ring. Beside each cell it keeps
-   memory of its own, which it releases when the cell goes. Build and run it with `make host`. */
+/* A small engine on the heap: it fills a basket, throws it away, fills another in one batch, runs a finalizer, and sweeps a ring.
+   Beside each cell it keeps memory of its own, which it releases when the cell goes. Build and run it with `make host`. */
 #include "vekszalir.h"
 
 #include <stdio.h>
@@ -68,6 +68,23 @@ static void fill_basket(void)
     }
 }
 
+/* A basket with one line as one batch, for which the heap is checked once. The answers say which cells came. */
+static void fill_basket_at_once(void)
+{
+    static const vek_record records[] = {
+        {VEK_CALL_NEW, BASKET, VEK_OBJECT, 0},
+        {VEK_CALL_NEW, LINE, VEK_STRING, 0},
+        {VEK_CALL_STORE, BASKET, 0, LINE},
+        {VEK_CALL_CLEAR, LINE, 0, 0},
+    };
+    vek_answer answers[4];
+    vek_totals totals = {0, 0, 0, 0};
+    said("another basket, in one batch", vek_batch(VEK_LEND(shop), VEK_LEND_TABLE(records), VEK_LEND_TABLE(answers), &totals));
+    keep(answers[0].cell, "the other basket");
+    keep(answers[1].cell, "3 x bun");
+    printf("  calls done %u, refused %u\n", (unsigned)totals.done, (unsigned)totals.refused);
+}
+
 /* The host's own code for a finalizer. It may use the object, which the root holds, and everything that it refers to. */
 static void release_lock(size_t cell) { printf("  the finalizer of cell %zu releases %s\n", cell, text[cell]); }
 
@@ -98,6 +115,8 @@ int main(void)
     said("a fresh heap of 16 cells", vek_fresh(VEK_LEND(shop)));
     fill_basket();
     said("the basket is thrown away", vek_clear(VEK_LEND_ALL(shop), BASKET));
+    fill_basket_at_once();
+    said("it is thrown away, too", vek_clear(VEK_LEND_ALL(shop), BASKET));
     make("a drawer lock with a finalizer", "the drawer lock", LOCK, VEK_OBJECT, 1);
     said("the lock is let go: it waits in the queue", vek_clear(VEK_LEND_ALL(shop), LOCK));
     run_finalizers();

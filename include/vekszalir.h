@@ -15,18 +15,18 @@
  *
  * A reference is 0 for empty, or the cell's number plus 1.
  *
- * What you owe: what you lend to a call, tables and bytes, does not overlap, is valid for its length (a length of 0
- * may come with a null pointer), and is written by nobody else during the call. Everything else is the heap's
+ * What you owe: what you lend to a call, tables, lists and bytes, does not overlap, is valid for its length (a length of
+ * 0 may come with a null pointer), and is written by nobody else during the call. Everything else is the heap's
  * business: any lengths, any contents and any numbers are answered, with a refusal where something is wrong.
  *
  * The library keeps no state of its own, so heaps of different threads don't meet: two threads may each make calls
  * on a heap of their own at the same time. One heap is for one call at a time.
  *
- * What you get, proved for every list of calls from a vek_fresh that is done, made one by one or as lines of text,
- * if nobody else writes the tables in between: no call frees a cell that your roots or the queue still reach; after
- * each vek_collect that is done the used cells are just the reached ones; and without a sweep the same holds exactly
- * when no unreached cells refer to each other, or one to itself, in a ring. Exactly then, too, a vek_collect made next
- * frees and queues nothing.
+ * What you get, proved for every list of calls from a vek_fresh that is done, made one by one, in batches or as lines
+ * of text, if nobody else writes the tables in between: no call frees a cell that your roots or the queue still reach;
+ * after each vek_collect that is done the used cells are just the reached ones; and without a sweep the same holds
+ * exactly when no unreached cells refer to each other, or one to itself, in a ring. Exactly then, too, a vek_collect
+ * made next frees and queues nothing.
  *
  * A call answers four numbers. `refused` is VEK_DONE or why nothing was done; a refused call changes no entry
  * of any table and answers freed 0, queued 0, cell 0. `freed` is the number of cells that were used before
@@ -50,10 +50,11 @@
 extern "C" {
 #endif
 
-#define VEK_VERSION "2.0.0"
+#define VEK_VERSION "2.1.0"
 
 /* Limits. */
 #define VEK_CELLS_MAX 1024
+#define VEK_RECORDS_MAX 4096
 #define VEK_ROOTS 64
 #define VEK_SLOTS 8
 #define VEK_CONTROL 2
@@ -81,8 +82,8 @@ extern "C" {
 #define VEK_BUSY 8     /* vek_start while a finalizer is running */
 #define VEK_NONE 9     /* vek_start with an empty queue */
 #define VEK_IDLE 10    /* vek_finish with no finalizer running */
-#define VEK_LINE 11    /* a line that names no call; only a line is refused so */
-#define VEK_TOTAL 12   /* vek_audit: no list of heaps leads to the report */
+#define VEK_LINE 11    /* a line, or a record of vek_batch, that names no call; nothing else is refused so */
+#define VEK_TOTAL 12   /* vek_batch: a total could pass its end; vek_audit: no list of heaps leads to the report */
 #define VEK_MANY 14    /* vek_audit: the report has a thousand heaps */
 
 typedef struct {
@@ -173,6 +174,46 @@ vek_answer vek_start(VEK_TABLES, VEK_FREED, size_t root);
    held comes off first, and then the queue's own reference, so that the cells freed by the first stand first in the list.
    Refused: SIZE, DAMAGED, IDLE. */
 vek_answer vek_finish(VEK_TABLES, VEK_FREED);
+
+/* A whole basket in one call: the heap is checked once, and not for each call.
+
+   A record is a call as four numbers: the call's own, and its arguments in the order above, unused ones 0. You lend a
+   list of them, at most VEK_RECORDS_MAX, a list of as many answers, and running totals over any number of batches:
+
+       static const vek_record basket[] = {
+           {VEK_CALL_NEW, 0, VEK_OBJECT, 0}, {VEK_CALL_NEW, 1, VEK_STRING, 0}, {VEK_CALL_STORE, 0, 3, 1}, {VEK_CALL_CLEAR, 1, 0, 0},
+       };
+       vek_answer answers[4];
+       vek_totals totals = {0, 0, 0, 0};
+       vek_answer a = vek_batch(VEK_LEND(shop), basket, 4, answers, 4, &totals);
+*/
+#define VEK_CALL_NEW 1
+#define VEK_CALL_CLEAR 2
+#define VEK_CALL_COPY 3
+#define VEK_CALL_LOAD 4
+#define VEK_CALL_STORE 5
+#define VEK_CALL_COLLECT 6
+#define VEK_CALL_START 7
+#define VEK_CALL_FINISH 8
+
+typedef struct {
+    uint16_t call, first, second, third;
+} vek_record;
+
+typedef struct {
+    uint64_t done, refused, freed, queued;
+} vek_totals;
+
+/* Tables and answers become those of the single calls made one after another. A record that is refused does not stop
+   the batch; one that names no call is answered VEK_LINE and does nothing. The totals rise by the calls done, the calls
+   refused, VEK_LINE among them, and the cells freed and queued. Takes no table for the freed cells, and the answers
+   don't name them. The batch itself answers as vek_fresh does.
+   Refused VEK_SIZE where the tables don't fit, or the lists differ in length or are longer than VEK_RECORDS_MAX;
+   VEK_DAMAGED; and VEK_TOTAL exactly if one of the four totals could pass the end of its 64 bits by 1,024 times the
+   list's length. A batch that is refused writes nothing: no table, no answer, no total. An empty list is done.
+   `totals` is never null. */
+vek_answer vek_batch(VEK_TABLES, const vek_record *records, size_t records_len, vek_answer *answers, size_t answers_len,
+                     vek_totals *totals);
 
 /* Calls as lines of text, in the bits in which they arrive.
 

@@ -4,8 +4,9 @@
 `rt must-fail` proves a whole crate anew for each edit, and looks at no other crate. Here are
 - tests/edits/CRATE/: edits of one crate, in a copy of the repository that `rt check` has proved. They share an
   incremental folder, so that after the first edit only what rests on the next is checked again; at the end the
-  crate as it stands must be proved there. Where functions don't call each other one edit may make several wrong;
-  the line 'refuses:' names them, and each must be refused.
+  crate as it stands must be proved there. Edits of functions that don't call each other are made together, and each
+  is weighed by what the prover says of its own function. One edit may also make several such functions wrong; the
+  line 'refuses:' names them, and each must be refused.
 - tests/edits/across/: edits of the rules that another crate's theorems refuse, which the line 'refused-by:' names,
   tried in the same way. Everything below that crate must still be proved.
 
@@ -105,18 +106,21 @@ def keep(name, said):
     log.write_text(said)
 
 
-def weighed(name, edit, functions, said):
+def weighed(name, edit, functions, refused, whole, error):
     """The outcome of an edit that was refused: of which kind, for each of `functions` or as a whole, and for each contract that it goes
     against. Where the public function itself is proved, a private one that it rests on is refused in its place."""
-    refused = refusals.refused(said)
-    whole = refusals.kind(said)
     kinds = {function: refused[function] for function in functions} or {"": whole}
     words = ", ".join(f"{function} {kind}".strip() for function, kind in kinds.items())
     private = [kind for function, kind in refused.items() if function not in contracts.public()]
     against = {contract: refused.get(contract) or refusals.weakest(private) for contract in edit.against}
     keeps = refusals.SHAPE not in kinds.values()
     why = f" ({edit.shape})" if edit.shape else "" if keeps else " AND NOTHING SAYS WHY"
-    return Outcome(name, keeps == (edit.shape is None), f"{words}{why}: {refusals.first_error(said)[:140]}", list(kinds.values()), against)
+    return Outcome(name, keeps == (edit.shape is None), f"{words}{why}: {error[:140]}", list(kinds.values()), against)
+
+
+def weighed_whole(name, edit, functions, said):
+    """The same of an edit that was made alone, by all that was said."""
+    return weighed(name, edit, functions, refusals.refused(said), refusals.kind(said), refusals.first_error(said))
 
 
 def control(name, edit, said):
@@ -125,46 +129,102 @@ def control(name, edit, said):
     return Outcome(name, kind not in refusals.REFUTED, f"harmless ({edit.harmless}), and {kind}", [], {})
 
 
-def said_of(name, edit, base, crate, copy):
-    """What the prover says of a crate while an edit of the files below `base` is made."""
-    texts = edited(base, edit.pairs)
+def said_of(names, pairs, base, crate, copy):
+    """What the prover says of a crate while edits of the files below `base` are made."""
+    texts = edited(base, pairs)
     for target, (_, after) in texts.items():
         target.write_text(after)
     said = dev(copy, crate)
-    keep(name, said)
+    for name in names:
+        keep(name, said)
     for target, (before, _) in texts.items():
         target.write_text(before)
     return said
 
 
-def within(crate, path, copy):
+def alone(crate, path, copy):
     """What became of one edit of a crate."""
     name, edit = f"{crate}/{path.stem}", read(path)
-    said = said_of(name, edit, copy / "crates" / crate, crate, copy)
+    said = said_of([name], edit.pairs, copy / "crates" / crate, crate, copy)
     if edit.harmless:
         return control(name, edit, said)
     functions = [f"{crate}::{function}" for function in edit.refusers]
     accepted = [function for function in functions if function not in refusals.refused(said)]
     if "logic=not-proved" not in said.splitlines() or accepted:
         return failure(name, f"NOT REFUSED {accepted}: {said[-2000:]}")
-    return weighed(name, edit, functions, said)
+    return weighed_whole(name, edit, functions, said)
+
+
+def own_functions(crate, path):
+    """The functions whose bodies an edit changes, where each of them is to be refused; none where the edit is to be made alone."""
+    edit, base = read(path), TOP / "crates" / crate
+    functions = {contracts.function_at(base / file, old) for file, old, _ in edit.pairs}
+    wanted = {f"{crate}::{function}" for function in edit.refusers}
+    return set() if edit.harmless or None in functions or functions != (wanted or functions) or not wanted and len(functions) > 1 else functions
+
+
+def apart(crate, own, other):
+    """Whether functions are neither the same nor call each other: of a function that is not proved the callers are not looked at."""
+    return own.isdisjoint(other) and not any(
+        g in contracts.rests_on(crate, f) or f in contracts.rests_on(crate, g) for f in own for g in other)
+
+
+def joins(crate, group, path, own):
+    """Whether an edit may be made together with those of a group: their functions stand apart, and each 'old:' text still stands once."""
+    if not own or not all(other and apart(crate, own, other) for other in group.values()):
+        return False
+    try:
+        edited(TOP / "crates" / crate, [pair for member in (*group, path) for pair in read(member).pairs])
+    except ValueError:
+        return False
+    return True
+
+
+def groups(crate):
+    """The edits of a crate in groups, each edit with its functions: edits of functions that stand apart, or one edit that is made alone."""
+    together = []
+    for path in sorted((EDITS / crate).glob("*.edit")):
+        own = own_functions(crate, path)
+        room = next((group for group in together if joins(crate, group, path, own)), None)
+        if room is None:
+            together.append({path: own})
+        else:
+            room[path] = own
+    return together
+
+
+def made_together(crate, group, copy):
+    """What became of edits of functions that stand apart, made together."""
+    if len(group) == 1:
+        return [alone(crate, path, copy) for path in group]
+    edits = [(f"{crate}/{path.stem}", read(path), own) for path, own in group.items()]
+    said = said_of([name for name, _, _ in edits], [pair for _, edit, _ in edits for pair in edit.pairs], copy / "crates" / crate, crate, copy)
+    return [together(name, edit, own, said) for name, edit, own in edits]
+
+
+def together(name, edit, own, said):
+    """What became of one of them, by what was said of its own functions."""
+    refused = {function: kind for function, kind in refusals.refused(said).items() if function in own}
+    if len(refused) < len(own):
+        return failure(name, f"NOT REFUSED {sorted(own - refused.keys())}: {said[-2000:]}")
+    return weighed(name, edit, sorted(own) if edit.refusers else [], refused, min(refused.values()), refusals.first_of(min(own), said))
 
 
 def across(path, copy):
     """What became of one edit across crates; those below the one that refuses it are proved."""
     name, edit = f"{ACROSS}/{path.stem}", read(path)
     (refuser,) = edit.refusers
-    said = said_of(name, edit, copy, refuser, copy)
+    said = said_of([name], edit.pairs, copy, refuser, copy)
     if "logic=not-proved" not in said.splitlines() or "NOT PROVED" in said:
-        return failure(name, f"NOT REFUSED by {refuser}: {said[-2000:]}")
-    return weighed(name, edit, [], said)
+        return [failure(name, f"NOT REFUSED by {refuser}: {said[-2000:]}")]
+    return [weighed_whole(name, edit, [], said)]
 
 
-def in_one_copy(paths, attempt, crates):
+def in_one_copy(attempts, attempt, crates):
     """What became of each edit, tried one after another in a copy in which the crates are proved when none is made."""
     with tempfile.TemporaryDirectory() as folder:
         copy = copied(folder)
-        outcomes = [attempt(path, copy) for path in paths]
+        outcomes = [outcome for one in attempts for outcome in attempt(one, copy)]
         # A copy that could not be proved as it stands would refuse every edit, and show nothing.
         unedited = [dev(copy, crate) for crate in crates]
         if any("logic=proved" not in said or "logic=not-proved" in said for said in unedited):
@@ -173,7 +233,7 @@ def in_one_copy(paths, attempt, crates):
 
 
 def crate_edits(crate):
-    return in_one_copy(sorted((EDITS / crate).glob("*.edit")), lambda path, copy: within(crate, path, copy), [crate])
+    return in_one_copy(groups(crate), lambda group, copy: made_together(crate, group, copy), [crate])
 
 
 def across_edits(_):
@@ -189,7 +249,7 @@ def logged(crate, path):
     said = log.read_text() if log.exists() else ""
     if "logic=not-proved" not in said.splitlines() or any(not left.exists() or left.read_text() != text for left, text in texts.items()):
         return Outcome(name, None, "no log of `rt must-fail` for it as it stands", [], dict.fromkeys(edit.against, None))
-    outcome = weighed(name, edit, [], said)
+    outcome = weighed_whole(name, edit, [], said)
     return outcome._replace(passed=None if outcome.passed else False)
 
 

@@ -1,8 +1,8 @@
 #!/usr/bin/env python3
-"""Compares the heap, its reading of lines, its audit and the two programs under test with an independent implementation of document 01
-and of Q-1 to Q-6 and Q-10 in document 02, and shows by wrong edits of the independent one that each of them is seen: by the comparison; by
-the independent heap itself, which stops where it meets a count at zero; or, where calls refuse the tables that would show it, by a suite
-that runs the independent heap alone.
+"""Compares the heap, its batches, its reading of lines, its audit and the two programs under test with an independent implementation of
+document 01 and of Q-1 to Q-7 and Q-10 in document 02, and shows by wrong edits of the independent one that each of them is seen: by the
+comparison; by the independent heap itself, which stops where it meets a count at zero; or, where calls refuse the tables that would show
+it, by a suite that runs the independent heap alone.
 
 The last line printed is 'N passed, M failed'.
 """
@@ -37,7 +37,8 @@ LENIENT = ["-w"]  # a wrong edit may leave something unused
 PROGRAM_PARTS = ["program.c", "input.c", "heap.c", "cell.c", "fit.c", "sound.c", "refusal.c", "count.c", "collect.c", "lines.c", "split.c"]
 AUDITOR_PARTS = ["auditor.c", "input.c", "audit.c", "possible.c", "fit.c", "split.c", "tables.c"]
 NOT_DRIVERS = {"program.c", "auditor.c", "input.c"}
-AUDITS = "audits"  # the word by which the driver compares audits alone
+# The words by which the driver compares a part alone, for edits of a source that no other part asks.
+ALONE = {"audit.c": "audits", "possible.c": "audits", "batch.c": "batches"}
 
 
 def all_sources():
@@ -202,7 +203,7 @@ def edit_caught(path, folder, objects, cases, audit_cases):
         return False
     if name in ("auditor.c", "split.c") and not auditor_edit_caught(with_edit, target, audit_cases):
         return False
-    words = [AUDITS] if name in ("audit.c", "possible.c") else []
+    words = [ALONE[name]] if name in ALONE else []
     return name in ("program.c", "auditor.c") or driver_edit_caught(with_edit, target, *words)
 
 
@@ -217,7 +218,8 @@ def without_edit(folder, objects, cases, audit_cases):
     """What an edit is put into shows no difference of its own."""
     compare = build_compare(objects, folder / "compare")
     yield "no edit, heap", run_driver(compare, SEEDS[0])[0] == 0
-    yield "no edit, audits alone", run_driver(compare, SEEDS[0], AUDITS)[0] == 0
+    for word in sorted(set(ALONE.values())):
+        yield f"no edit, {word} alone", run_driver(compare, SEEDS[0], word)[0] == 0
     yield no_difference("no edit, program", build_program(objects, folder / "program"), cases)
     yield auditors.no_difference("no edit, auditor", build_program(objects, folder / "auditor", AUDITOR_PARTS), audit_cases)
 

@@ -32,7 +32,8 @@ EMPTY_OR_NOT = re.compile(
 TEST_FAILS = re.compile(r"expected type `(?:CounterBook|MetExamples|ListExamples)`, but this has type `mathlib\.Core\.Path\._≡_ ")
 OTHER_NEEDS = re.compile(r"has no `Need-|type `tie\.Need-|\.Lts\.[^`]*`\s+has no field ")
 TWO_TYPES = re.compile(r"expected type|but has type|the two \w+ |whose two ends are equal, and `Path |\s≟ `|: `(?:rw|simp)`: no ")
-REFUSED = re.compile(r"fn (\S+): (?:not proved$|no proof: )")
+# Of a function that is proved by a walk of its own the prover also says that it would not have found one.
+REFUSED = re.compile(r"fn (\S+): (?:not proved$|not proved; the borrow checker |no proof: )")
 
 
 def messages(said):
@@ -106,8 +107,17 @@ def weakest(kinds):
     return max(kinds, key=(*KINDS, SHAPE).index, default=UNPROVED)
 
 
-def first_error(said):
-    """The first line that says what is wrong, or else what is not proved, with its place as a path from the crates on."""
-    errors = [line for line in said.splitlines() if ": error: " in line and "was not admitted" not in line]
-    errors += [line for line in said.splitlines() if ": it is not proved that " in line]
+def placed(errors):
+    """The first of these lines, with its place as a path from the crates on."""
     return re.split(r"/(?:crates|must-fail)/", errors[0])[-1] if errors else "no error to read"
+
+
+def first_error(said):
+    """The first line that says what is wrong, or else what is not proved."""
+    errors = [line for line in said.splitlines() if ": error: " in line and "was not admitted" not in line]
+    return placed(errors + [line for line in said.splitlines() if ": it is not proved that " in line])
+
+
+def first_of(function, said):
+    """The first that says so of one function."""
+    return placed([head(message) for message in own_errors(function, said)])

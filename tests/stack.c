@@ -2,7 +2,7 @@
    was painted before: the deepest byte that lost its paint says how far the call went. The heap is a chain of 1,024
    objects, up or down, so that marking nests as deep as it may and a CLEAR frees them all.
 
-   The take-off of a line has room of 2 KiB for its work list, in its own frame. In its callers' frames it would stand in
+   The take-off of a line or a record has room of 2 KiB for its work list, in its own frame. In its callers' frames it would stand in
    calls that never use it, CLEAR and FINISH among them, and these would pass their limit. */
 #include "../include/vekszalir.h"
 
@@ -11,7 +11,7 @@
 #include <ucontext.h>
 
 enum { N = 1024, STACK = 65536, PAINT = 0xA5 };
-enum { CALL = 2560, LINE = 3584, AUDIT = 2560 }; /* the most bytes of each kind */
+enum { CALL = 2560, LINE = 3584, BATCH = 3584, AUDIT = 2560 }; /* the most bytes of each kind */
 
 static VEK_STORAGE(N) heap;
 
@@ -38,6 +38,18 @@ static uint8_t out[VEK_ANSWER_LEN + 1]; /* the last one stays 0 */
 static void hold(void) { progress = vek_take(VEK_LEND(heap), (vek_reader){0}, line, sizeof line - 2, out, VEK_ANSWER_LEN); }
 static void run_take(void) { progress = vek_take(VEK_LEND(heap), (vek_reader){0}, line, sizeof line, out, VEK_ANSWER_LEN); }
 static void run_end(void) { progress = vek_end(VEK_LEND(heap), progress.reader, out, VEK_ANSWER_LEN); }
+
+/* A call as the only record of a batch; its answer, where the batch is done. */
+static vek_record record;
+static vek_answer answered;
+static vek_totals totals;
+
+static void run_batch(void)
+{
+    answer = vek_batch(VEK_LEND(heap), &record, 1, &answered, 1, &totals);
+    if (answer.refused == VEK_DONE)
+        answer = answered;
+}
 
 /* The audit; its row, a chain's N cells at zero, is looked at here. */
 static int32_t differences[N];
@@ -102,6 +114,7 @@ static void measure(const char *name, void (*run)(void), unsigned freed, size_t 
 static void waiting_chain(void) { chain(N, 1), heap.roots[0] = 0, heap.queue[0] = 1, heap.control[0] = 1, heap.flags[0] = 1; }
 
 static void measure_line(const char *name, char op, unsigned freed) { line[0] = op, measure(name, run_take, freed, LINE); }
+static void measure_batch(const char *name, uint16_t call, unsigned freed) { record.call = call, measure(name, run_batch, freed, BATCH); }
 
 int main(void)
 {
@@ -118,6 +131,9 @@ int main(void)
     chain(N, 1), measure_line("take, a line of CLEAR", '2', N);
     waiting_chain(), run_start(), measure_line("take, a line of FINISH", '8', N);
     chain(N, 1), measure_line("take, a line of COLLECT", '6', 0);
+    chain(N, 1), measure_batch("batch, a record of CLEAR", VEK_CALL_CLEAR, N);
+    waiting_chain(), run_start(), measure_batch("batch, a record of FINISH", VEK_CALL_FINISH, N);
+    chain(N, 1), measure_batch("batch, a record of COLLECT", VEK_CALL_COLLECT, 0);
     chain(N, 1), hold(), measure("end, a line of COLLECT", run_end, 0, LINE);
     chain(N, 1), measure("audit", run_audit, 0, AUDIT);
     measure("fresh", run_fresh, 0, CALL);

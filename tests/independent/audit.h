@@ -6,9 +6,6 @@
 
 #include <stdbool.h>
 
-/* What an audit is refused with, besides SIZE. */
-enum { TOTAL = 12, MANY = 14 };
-
 /* "up to 1,000 heaps" */
 enum { HEAPS_MAX = 1000 };
 

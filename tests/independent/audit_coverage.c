@@ -1,5 +1,6 @@
 #include "audit_coverage.h"
 
+#include "met.h"
 #include "parts.h"
 
 #include <stdio.h>
@@ -186,20 +187,11 @@ void coverage_audit(const struct heap *heap, const int32_t *differences, struct 
         note_refused(heap, before, refused);
 }
 
-static bool report_situation(enum situation situation)
-{
-    bool enough = met[situation] > MORE_OFTEN_THAN;
-    printf("  %s: %lu\n", names[situation], met[situation]);
-    if (!enough)
-        printf("not covered: %s often enough\n", names[situation]);
-    return enough;
-}
-
 bool audit_coverage_report(void)
 {
     bool all = true;
     printf("audits:\n");
     for (int situation = 0; situation < SITUATIONS; situation++)
-        all &= report_situation(situation);
+        all &= met_enough(names[situation], met[situation], MORE_OFTEN_THAN);
     return all;
 }

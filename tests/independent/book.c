@@ -1,26 +1,8 @@
 /* "Counter book: twelve marked examples", and the answers that stand there. K13 to K15 are those of Q-2 in document 02, whose
    answers follow from its rule. */
+#include "book.h"
+
 #include "suites.h"
-
-#include "pair.h"
-
-/* A step that isn't a call: table, entry and the value that stands there now. */
-enum { FACT = OPS };
-
-enum { STEPS = 17 };
-
-/* A call, the numbers it gets and the answer wanted. A list ends with a step that is all zeros. */
-struct step {
-    unsigned op;
-    size_t arg[3];
-    struct answer want;
-};
-
-struct example {
-    const char *name;
-    size_t cells;
-    struct step steps[STEPS];
-};
 
 #define K6_FIRST { NEW, { 0, 1, 1 }, { 0 } }, { CLEAR, { 0 }, { .queued = 1 } }
 #define K7_FIRST                                                                                              \
@@ -33,7 +15,7 @@ struct example {
         { START, { 1 }, { 0 } }, { STORE, { 0, 0, 1 }, { 0 } }, { FINISH, { 0 }, { 0 } },                     \
         { FACT, { T_COUNT, 1, 1 }, { 0 } }, { FACT, { T_FLAGS, 1, 3 }, { 0 } }
 
-static const struct example examples[] = {
+const struct book_example book_examples[] = {
     { "K1", 1,
       { { NEW, { 0, 1, 0 }, { 0 } },
         { NEW, { 1, 1, 0 }, { .refused = FULL } },
@@ -148,31 +130,33 @@ static const struct example examples[] = {
         { FACT, { T_CONTROL, LENGTH, 1 }, { 0 } } } },
 };
 
-static bool same(struct answer a, struct answer b)
+const size_t book_count = sizeof book_examples / sizeof *book_examples;
+
+bool book_fact(struct pair *pair, const struct book_step *fact)
 {
-    return a.refused == b.refused && a.freed == b.freed && a.queued == b.queued && a.cell == b.cell;
+    return table_of(&pair->ours, fact->arg[0])->at[fact->arg[1]] == fact->arg[2];
 }
 
-static bool step_holds(struct pair *pair, const struct step *step)
+static bool step_holds(struct pair *pair, const struct book_step *step)
 {
     const size_t *arg = step->arg;
     if (step->op == FACT)
-        return table_of(&pair->ours, arg[0])->at[arg[1]] == arg[2];
-    return same(pair_call(pair, step->op, arg[0], arg[1], arg[2]), step->want);
+        return book_fact(pair, step);
+    return same_answer(pair_call(pair, step->op, arg[0], arg[1], arg[2]), step->want);
 }
 
-static void play(const struct example *example)
+static void play(const struct book_example *example)
 {
     pair_sequence(example->name);
     struct pair pair = pair_of(example->cells);
     pair_call(&pair, FRESH, 0, 0, 0);
-    for (const struct step *step = example->steps; step->op != FRESH; step++)
+    for (const struct book_step *step = example->steps; step->op != FRESH; step++)
         demand(step_holds(&pair, step), "the book says otherwise");
     pair_free(&pair);
 }
 
 void book(void)
 {
-    for (size_t i = 0; i < sizeof examples / sizeof *examples; i++)
-        play(&examples[i]);
+    for (size_t i = 0; i < book_count; i++)
+        play(&book_examples[i]);
 }

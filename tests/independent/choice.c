@@ -1,5 +1,6 @@
 #include "choice.h"
 
+#include "made.h"
 #include "misfits.h"
 #include "noting.h"
 #include "random.h"
@@ -196,6 +197,12 @@ void blind_call(struct pair *pair, enum op op)
 {
     size_t n = pair->ours.kind.len, a = blind_number(), b = blind_number(), c = blind_number();
     pair_call_with(pair, chance(85) ? n : misfitting_length(n), op, a, b, c);
+}
+
+void fill_with_sound(struct pair *pair)
+{
+    make_sound(&pair->ours);
+    pair_share(pair);
 }
 
 void fill_with_noise(struct pair *pair)

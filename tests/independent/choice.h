@@ -25,7 +25,8 @@ void knowing_finalizer(struct pair *pair);
 /* A call on tables that may be damaged: arguments are in range or wild, the list fits or not, and nothing is followed. */
 void blind_call(struct pair *pair, enum op op);
 
-/* Noise of full 16-bit numbers in every entry. */
+/* Sound tables that are drawn, where all entries were 0; and noise of full 16-bit numbers in every entry. */
+void fill_with_sound(struct pair *pair);
 void fill_with_noise(struct pair *pair);
 
 #endif

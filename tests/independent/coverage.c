@@ -1,5 +1,7 @@
 #include "coverage.h"
 
+#include "met.h"
+
 #include <stdio.h>
 
 const char *const op_names[OPS] = { "FRESH", "NEW", "CLEAR", "COPY", "LOAD", "STORE", "COLLECT", "START", "FINISH" };
@@ -78,6 +80,11 @@ static const unsigned possible[OPS] = {
     [FINISH] = ANY_CALL | BIT(IDLE),
 };
 
+bool refusal_possible(enum op op, enum refusal refusal)
+{
+    return (possible[op] & BIT(refusal)) != 0;
+}
+
 static unsigned long met[OPS][REFUSALS], landmarks[LANDMARKS];
 static unsigned most_freed[OPS], most_queued[OPS];
 
@@ -138,31 +145,18 @@ static unsigned long calls_met(enum refusal first, enum refusal last)
     return sum;
 }
 
-static bool lacking(bool lacks, const char *what, const char *which)
-{
-    if (lacks)
-        printf("not covered: %s %s\n", what, which);
-    return lacks;
-}
-
 static bool report_call(enum op op)
 {
     bool lacks = false;
     printf("  %-8s", op_names[op]);
     for (int refusal = 0; refusal < REFUSALS; refusal++) {
         printf(" %6lu", met[op][refusal]);
-        lacks |= (met[op][refusal] != 0) != ((possible[op] & BIT(refusal)) != 0);
+        lacks |= (met[op][refusal] != 0) != refusal_possible(op, refusal);
     }
     printf("  at once freed %u, queued %u\n", most_freed[op], most_queued[op]);
     return !lacking(lacks, op_names[op], "with each refusal it can give, and no other")
         && !lacking(most_freed[op] < free_at_least[op], op_names[op], "freeing enough at once")
         && !lacking(most_queued[op] < queue_at_least[op], op_names[op], "queueing enough at once");
-}
-
-static bool report_landmark(enum landmark landmark)
-{
-    printf("  %s: %lu\n", landmark_names[landmark], landmarks[landmark]);
-    return !lacking(landmarks[landmark] <= more_often_than[landmark], landmark_names[landmark], "often enough");
 }
 
 bool coverage_report(void)
@@ -172,6 +166,6 @@ bool coverage_report(void)
     for (int op = 0; op < OPS; op++)
         all &= report_call(op);
     for (int landmark = 0; landmark < LANDMARKS; landmark++)
-        all &= report_landmark(landmark);
+        all &= met_enough(landmark_names[landmark], landmarks[landmark], more_often_than[landmark]);
     return all;
 }

@@ -8,6 +8,9 @@
 
 extern const char *const op_names[OPS];
 
+/* Whether a call can be refused so. */
+bool refusal_possible(enum op op, enum refusal refusal);
+
 /* Situations that the answers of a single call don't tell. */
 enum landmark {
     COLLECT_WHILE_RUNNING,

@@ -1,54 +1,8 @@
 /* Sound heaps, drawn or made by calls, are broken in each way; then no call may do anything but FRESH. */
 #include "suites.h"
 
-#include "breaking.h"
 #include "choice.h"
-#include "made.h"
-#include "random.h"
-
-/* The heaps to be broken: small ones, and two large ones at last. */
-enum { SMALL = 70, STOCK = SMALL + 2, APPLIED_MIN = 3 };
-
-static void by_calls(struct pair *pair)
-{
-    enum mood mood = below(MOODS);
-    for (int i = 0; i < 60; i++)
-        knowing_call(pair, mood);
-}
-
-/* Calls leave few cells that are finalised or that wait in a long queue. */
-static void drawn(struct pair *pair)
-{
-    make_sound(&pair->ours);
-    pair_share(pair);
-}
-
-static void all_queued(struct pair *pair)
-{
-    for (size_t i = 0; i < pair->ours.kind.len; i++) {
-        pair_call(pair, NEW, 0, OBJECT, 1);
-        pair_call(pair, CLEAR, 0, 0, 0);
-    }
-}
-
-static void (*const origins[])(struct pair *) = { by_calls, drawn, by_calls, drawn, all_queued };
-
-static struct pair good_heap(size_t cells, void (*make)(struct pair *))
-{
-    pair_sequence("heaps to be damaged");
-    struct pair pair = pair_of(cells);
-    make(&pair);
-    demand(pair_call(&pair, START, ROOTS, 0, 0).refused == NUMBER, "a heap to be damaged is sound");
-    return pair;
-}
-
-static void fill_stock(struct pair stock[STOCK])
-{
-    for (size_t i = 0; i < SMALL; i++)
-        stock[i] = good_heap(1 + i % 6, origins[i % (sizeof origins / sizeof *origins)]);
-    stock[SMALL] = good_heap(256, drawn);
-    stock[SMALL + 1] = good_heap(CELLS_MAX, drawn);
-}
+#include "damaged.h"
 
 /* The first call would be refused as NUMBER on a sound heap: it shows a clause that is left out without following any
    reference. At last FRESH is done, "whatever stood there". */
@@ -61,34 +15,7 @@ static void call_on_damaged(struct pair *pair)
     demand(pair_call(pair, FRESH, 0, 0, 0).refused == DONE, "FRESH is done on damaged tables");
 }
 
-/* Whether the damage could be done to a heap like this one. */
-static bool damage_one(struct pair *good, const struct damage *damage)
-{
-    struct pair pair = pair_of(good->ours.kind.len);
-    copy_tables(&pair.ours, &good->ours);
-    bool applied = damage->apply(&pair.ours, damage);
-    pair_share(&pair);
-    if (applied)
-        call_on_damaged(&pair);
-    pair_free(&pair);
-    return applied;
-}
-
-static void damage_each(struct pair stock[STOCK], const struct damage *damage)
-{
-    int applied = 0;
-    pair_sequence(damage->name);
-    for (size_t i = 0; i < STOCK; i++)
-        applied += damage_one(&stock[i], damage);
-    demand(applied >= APPLIED_MIN, "the damage is done to a few heaps");
-}
-
 void damage(void)
 {
-    static struct pair stock[STOCK];
-    fill_stock(stock);
-    for (size_t d = 0; d < damage_count; d++)
-        damage_each(stock, &damages[d]);
-    for (size_t i = 0; i < STOCK; i++)
-        pair_free(&stock[i]);
+    each_damaged(call_on_damaged);
 }

@@ -2,7 +2,6 @@
 #include "suites.h"
 
 #include "choice.h"
-#include "made.h"
 #include "misfits.h"
 #include "random.h"
 
@@ -14,12 +13,6 @@ static void refused(struct pair *pair, size_t list_len)
         struct answer answer = pair_call_with(pair, list_len, op, below(4), below(4), below(2));
         demand(answer.refused == SIZE, "a list that doesn't fit is refused");
     }
-}
-
-static void sound_tables(struct pair *pair)
-{
-    make_sound(&pair->ours);
-    pair_share(pair);
 }
 
 /* What the list's length does to a call it does on any tables that fit. FRESH looks at no list. */
@@ -48,7 +41,7 @@ static void tables_off(const size_t len[TABLES])
 void freed_lengths(void)
 {
     for (size_t i = 0; i < sizeof cells / sizeof *cells; i++) {
-        list_off(cells[i], sound_tables);
+        list_off(cells[i], fill_with_sound);
         list_off(cells[i], fill_with_noise);
     }
     each_misfit(tables_off);

@@ -21,6 +21,9 @@ enum op { FRESH, NEW, CLEAR, COPY, LOAD, STORE, COLLECT, START, FINISH, OPS };
 
 enum refusal { DONE, SIZE, DAMAGED, NUMBER, EMPTY, KIND, TAKEN, FULL, BUSY, NONE, IDLE, REFUSALS };
 
+/* What no single call is refused with: lines, batches and audits are. */
+enum { LINE = 11, TOTAL = 12, MANY = 14 };
+
 struct table {
     uint16_t *at;
     size_t len;

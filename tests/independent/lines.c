@@ -2,8 +2,6 @@
 
 #include <stdio.h>
 
-enum { FIELDS = 4 };
-
 static const unsigned arguments[OPS] = {
     [NEW] = 3, [CLEAR] = 1, [COPY] = 2, [LOAD] = 3, [STORE] = 3, [COLLECT] = 0, [START] = 1, [FINISH] = 0,
 };
@@ -25,7 +23,7 @@ static bool four_numbers(struct text line, unsigned field[FIELDS])
 }
 
 /* "the call's number 1 to 8, then its arguments in the order above, unused ones 0" */
-static bool is_call(const unsigned field[FIELDS])
+bool is_call(const unsigned field[FIELDS])
 {
     if (field[0] < NEW || field[0] > FINISH)
         return false;
@@ -35,8 +33,9 @@ static bool is_call(const unsigned field[FIELDS])
     return true;
 }
 
-/* "the CSV program doesn't print it". The list goes to room that is the line's own, and fits wherever N does. */
-static struct answer call_of(struct heap *heap, const unsigned field[FIELDS])
+/* Q-5: "the CSV program doesn't print it"; Q-7: "A batch takes no Q-5 table". The list goes to room that is the call's own, and
+   fits wherever N does. */
+struct answer call_of(struct heap *heap, const unsigned field[FIELDS])
 {
     uint16_t room[CELLS_MAX];
     const struct table freed = { room, heap->kind.len };

@@ -5,8 +5,8 @@
 #include "heap.h"
 #include "split.h"
 
-/* The longest reply has five numbers of five digits, four commas, CR and LF. */
-enum { LINE = 11, REPLY_MAX = 31 };
+/* A line has four numbers. The longest reply has five numbers of five digits, four commas, CR and LF. */
+enum { FIELDS = 4, REPLY_MAX = 31 };
 
 /* What a line of the output says. */
 struct reply {
@@ -16,6 +16,10 @@ struct reply {
 
 /* How many of its three arguments a call uses. */
 unsigned arguments_of(enum op op);
+
+/* Whether four numbers name a call; and the call that they name, made without a table for the freed cells. */
+bool is_call(const unsigned field[FIELDS]);
+struct answer call_of(struct heap *heap, const unsigned field[FIELDS]);
 
 /* Does what a line, without its CR LF, asks for. */
 struct reply answer_line(struct heap *heap, struct text line);

@@ -7,7 +7,6 @@
 
 #include <stdio.h>
 #include <stdlib.h>
-#include <string.h>
 
 /* A call with the length of its list and both answers to it. */
 struct event {
@@ -113,7 +112,7 @@ struct pair pair_made(const char *part, size_t n, void (*make)(struct heap *))
     return pair;
 }
 
-static void print_answer(const char *who, struct answer answer)
+void pair_tell_answer(const char *who, struct answer answer)
 {
     printf("  %s answers refused %u, freed %u, queued %u, cell %u\n", who, answer.refused, answer.freed, answer.queued, answer.cell);
 }
@@ -126,8 +125,8 @@ static void check(const struct event *event, const char *difference)
     pair_tell_place();
     printf("%s %zu, %zu, %zu with room for %zu freed cells\n", op_names[event->op], event->arg[0], event->arg[1], event->arg[2],
            event->list_len);
-    print_answer("the independent heap", event->ours);
-    print_answer("the heap under test", event->theirs);
+    pair_tell_answer("the independent heap", event->ours);
+    pair_tell_answer("the heap under test", event->theirs);
     printf("  %s\n", difference);
     exit(1);
 }
@@ -142,9 +141,14 @@ const char *pair_difference(struct pair *pair)
     return difference;
 }
 
+bool same_answer(struct answer a, struct answer b)
+{
+    return a.refused == b.refused && a.freed == b.freed && a.queued == b.queued && a.cell == b.cell;
+}
+
 static const char *answer_difference(const struct event *event)
 {
-    return memcmp(&event->ours, &event->theirs, sizeof event->ours) == 0 ? NULL : "the answers differ";
+    return same_answer(event->ours, event->theirs) ? NULL : "the answers differ";
 }
 
 struct answer pair_call_with(struct pair *pair, size_t list_len, enum op op, size_t a, size_t b, size_t c)

@@ -24,6 +24,9 @@ unsigned long pair_step(void);
 /* Begins the report of a difference with the place that the comparison has reached. */
 void pair_tell_place(void);
 
+/* Goes on with it: what somebody answers. */
+void pair_tell_answer(const char *who, struct answer answer);
+
 /* Whether what is empty is lent as a null pointer: in every second sequence. */
 bool pair_lends_null(void);
 
@@ -39,6 +42,9 @@ struct pair pair_made(const char *part, size_t n, void (*make)(struct heap *));
 
 /* What differs between the tables, or what is written outside them, in words; null if nothing. */
 const char *pair_difference(struct pair *pair);
+
+/* Whether all numbers are the same. */
+bool same_answer(struct answer a, struct answer b);
 
 /* Ends the program, with a report, if what both heaps did isn't what the documents say. */
 void demand(bool holds, const char *what);

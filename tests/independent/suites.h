@@ -33,4 +33,14 @@ void audit_lists(void);    /* lists of heaps of all sorts, up to a thousand and 
 void audit_reached(void);  /* a list for each report within the bounds, and none beyond them */
 void audit_small(void);    /* the bounds of the independent audit alone, with limits so small that all heaps can be made */
 
+void batch_examples(void); /* batches whose answers are known */
+void batch_book(void);     /* the marked examples as batches */
+void batch_numbers(void);  /* records with numbers up to the largest in every place */
+void batch_lengths(void);  /* lists and tables whose lengths don't fit */
+void batch_refusals(void); /* several reasons to refuse a batch at once */
+void batch_totals(void);   /* totals near their end */
+void batch_damage(void);   /* batches on heaps with a single clause broken */
+void batch_large(void);    /* batches in which one record frees or queues all cells */
+void batch_lists(void);    /* random batches, and single calls among them */
+
 #endif

@@ -34,6 +34,16 @@ void exact_heap_free(struct heap *heap)
         free(table_of(heap, t)->at);
 }
 
+struct heap exact_copy(struct heap *heap)
+{
+    size_t len[TABLES];
+    for (int t = 0; t < TABLES; t++)
+        len[t] = table_of(heap, t)->len;
+    struct heap copy = exact_heap(len);
+    copy_tables(&copy, heap);
+    return copy;
+}
+
 void copy_tables(struct heap *to, struct heap *from)
 {
     for (int t = 0; t < TABLES; t++) {

@@ -17,6 +17,9 @@ void fitting_lengths(size_t len[TABLES], size_t n);
 struct heap exact_heap(const size_t len[TABLES]);
 void exact_heap_free(struct heap *heap);
 
+/* The same tables in room of their own. */
+struct heap exact_copy(struct heap *heap);
+
 /* The same lengths on both sides. */
 void copy_tables(struct heap *to, struct heap *from);
 

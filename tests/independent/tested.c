@@ -32,10 +32,23 @@ static vek_answer pass_on(struct heap *heap, struct table freed, enum op op, siz
     }
 }
 
+static struct answer answer_from(vek_answer answer)
+{
+    return (struct answer){ answer.refused, answer.freed, answer.queued, answer.cell };
+}
+
 struct answer tested_call(struct heap *heap, struct table freed, enum op op, size_t a, size_t b, size_t c)
 {
-    vek_answer answer = pass_on(heap, freed, op, a, b, c);
-    return (struct answer){ answer.refused, answer.freed, answer.queued, answer.cell };
+    return answer_from(pass_on(heap, freed, op, a, b, c));
+}
+
+struct answer tested_batch(struct heap *heap, const struct lent_lists *lists)
+{
+    const vek_record *records = (const vek_record *)bytes_lent(&lists->records);
+    vek_answer *answers = (vek_answer *)bytes_lent(&lists->answers);
+    vek_totals *totals = (vek_totals *)bytes_lent(&lists->totals);
+    size_t records_len = lists->records.len / sizeof *records, answers_len = lists->answers.len / sizeof *answers;
+    return answer_from(vek_batch(LENT, records, records_len, answers, answers_len, totals));
 }
 
 vek_progress tested_take(struct heap *heap, vek_reader reader, const struct bytes *in, const struct bytes *out)

@@ -62,18 +62,9 @@ static void append_call(struct text *text, struct heap *heap, enum mood mood)
     append(text, line, len);
 }
 
-static struct heap copy_of(struct heap *heap)
-{
-    size_t len[TABLES];
-    fitting_lengths(len, heap->kind.len);
-    struct heap copy = exact_heap(len);
-    copy_tables(&copy, heap);
-    return copy;
-}
-
 struct text random_text(struct heap *heap, size_t lines)
 {
-    struct heap copy = copy_of(heap);
+    struct heap copy = exact_copy(heap);
     struct text text = { NULL, 0 };
     enum mood mood = below(MOODS);
     const char *end = ends[below(sizeof ends / sizeof *ends)];

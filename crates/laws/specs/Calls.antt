@@ -5,6 +5,7 @@ pub mod Conditions
 pub mod Lent
 pub mod Did
 pub mod Judge
+pub mod Agrees
 pub mod Refusals
 pub mod NotRefused
 pub mod Cases
@@ -18,3 +19,5 @@ pub mod Outer
 pub mod Outcome
 pub mod Done
 pub mod Asked
+pub mod Batch
+pub mod Batched

@@ -2,7 +2,7 @@
 -- Assumes nothing.
 use mathlib.Core.Path.{_≡_, refl, sym, ap, _∙_, subst, subst⁻¹}
 use mathlib.Core.List.{List, [], _∷_, _++_, map, append-nil}
-use mathlib.Core.Bool.{Bool, true, false}
+use mathlib.Core.Bool.{Bool, true}
 use Prim.Native.Nat.{ℕ, suc, _+_, _≤_, _<_}
 use native.Mathlib.Omega.{arith}
 use lib.ListN.{length, take, replicate, length-append, length-replicate}
@@ -70,10 +70,6 @@ module _ (k f n s q t : List ℕ) (from r : ℕ) (d : Releasable k f n s q t fro
   pub at-once : {n′ : List ℕ} {off : Bool} → SharedOff n r n′ off → off ≡ true → release (begun k f n s q t) r ≡ working k f n′ s q t []
   unfolding release start
   at-once {n′} e came = ap (drain (length k)) (e .shared came k f s q t) ∙ drain-empty (length k) (working k f n′ s q t []) refl
-
-  -- it is the last: it is still to come off
-  pub still-due : {n′ : List ℕ} {off : Bool} → SharedOff n r n′ off → off ≡ false → Releasable k f n′ s q t from r
-  still-due e left = subst⁻¹ (λ (m : List ℕ). Releasable k f m s q t from r) (e .kept left) d
 
   module _ (w n′ q′ t′ w′ : List ℕ) (x : ℕ) (e : CameOff (decref (working k f n [] q t []) r) n′ q′ t′ w from w′ x) where
     -- the cells that the first step queued, and those that wait after it

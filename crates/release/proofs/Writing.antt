@@ -3,7 +3,7 @@
 use Prim.Native.Nat.{ℕ, zero, suc, _+_, _*_, _-_, _≤_, _<_}
 use native.Mathlib.Omega.{arith}
 use mathlib.Core.List.{List, []}
-use mathlib.Core.Bool.{Bool, false}
+use mathlib.Core.Bool.{Bool, true}
 use mathlib.Core.Path.{_≡_, refl, sym, ap, _∙_, subst, subst⁻¹}
 use lib.ListN.{length, take, getD, set}
 use Rattle.rules.specs.declared.Answer.{Answer}
@@ -16,6 +16,7 @@ use Rattle.laws.specs.Calls.Write.{count-bound, write-root-ready, write-slot-re
 use Rattle.release.specs.Release.{begun, Raisable, Releasable, WorkDone}
 use Rattle.release.specs.Steps.{SharedOff}
 use Rattle.release.specs.Write.{Writable, SlotWritable, WorkFinished}
+use Rattle.release.proofs.Released.{at-once, done-none}
 use Rattle.release.proofs.Whole.{releasable, WorkDoneFrom, whole}
 
 -- ---- a count
@@ -40,37 +41,36 @@ raisable h r s used = record {
 
 -- ---- the end of a call
 
--- the take-off is the same with any roots, and the answer says what it freed and queued
-module _ (k f n s q t l : List ℕ) (r : ℕ) (p : Releasable k f n s q t 0 r) (k′ f′ n′ s′ q′ t′ l′ : List ℕ) (end : ℕ)
-    (h : WorkDone (release (begun k f n s q t) r) k′ f′ n′ s′ q′ t′ l 0 l′ end) where
-  from : (roots : List ℕ) → WorkDoneFrom (start (tables k f n s roots q t)) (release (start (tables k f n s roots q t)) r) k′ f′ n′ s′ q′ t′ l 0 l′ end
-  unfolding start
-  from roots = whole (start (tables k f n s roots q t)) r l 0 p k′ f′ n′ s′ q′ t′ l′ end refl h
+module _ (k f n s q t l : List ℕ) (r : ℕ) (p : Releasable k f n s q t 0 r) where
+  -- the take-off is the same with any roots, and the answer says what it freed and queued
+  module _ (k′ f′ n′ s′ q′ t′ l′ : List ℕ) (end : ℕ) (h : WorkDone (release (begun k f n s q t) r) k′ f′ n′ s′ q′ t′ l 0 l′ end) where
+    from : (roots : List ℕ) → WorkDoneFrom (start (tables k f n s roots q t)) (release (start (tables k f n s roots q t)) r) k′ f′ n′ s′ q′ t′ l 0 l′ end
+    unfolding start
+    from roots = whole (start (tables k f n s roots q t)) r l 0 p k′ f′ n′ s′ q′ t′ l′ end refl h
 
-  pub queue-grows : getD t 0 0 ≤ getD t′ 0 0
-  unfolding start
-  queue-grows = omega (arith, from [] .queued)
+    pub queue-grows : getD t 0 0 ≤ getD t′ 0 0
+    unfolding start
+    queue-grows = omega (arith, from [] .queued)
 
-  pub took : (refused freed queued cell : ℕ) → refused ≡ 0 → freed ≡ end → queued ≡ getD t′ 0 0 - getD t 0 0 → cell ≡ 0 → (roots : List ℕ)
-      → WorkFinished (release (start (tables k f n s roots q t)) r) k′ f′ n′ s′ roots q′ t′ l l′ (answers refused freed queued cell)
-  unfolding start
-  took refused freed queued cell done is grew none roots =
-      let g = from roots in
-      let v : Work = release (start (tables k f n s roots q t)) r in
-      let all : end ≡ length (v .freed) = g .many refl in
-      let of-queued : queued ≡ length (v .queued) = omega (arith, g .queued) in
-      record {
-        heap = g .heap;
-        listed = λ room. ap (λ (i : ℕ). take i l′) (sym all) ∙ g .listed room refl;
-        answered = λ i. answers (done i) ((is ∙ all) i) (of-queued i) (none i);
-      }
+    pub took : (refused freed queued cell : ℕ) → refused ≡ 0 → freed ≡ end → queued ≡ getD t′ 0 0 - getD t 0 0 → cell ≡ 0 → (roots : List ℕ)
+        → WorkFinished (release (start (tables k f n s roots q t)) r) k′ f′ n′ s′ roots q′ t′ l l′ (answers refused freed queued cell)
+    unfolding start
+    took refused freed queued cell done is grew none roots =
+        let g = from roots in
+        let v : Work = release (start (tables k f n s roots q t)) r in
+        let all : end ≡ length (v .freed) = g .many refl in
+        let of-queued : queued ≡ length (v .queued) = omega (arith, g .queued) in
+        record {
+          heap = g .heap;
+          listed = λ room. ap (λ (i : ℕ). take i l′) (sym all) ∙ g .listed room refl;
+          answered = λ i. answers (done i) ((is ∙ all) i) (of-queued i) (none i);
+        }
 
--- the same where the counts are those that were looked at, since the reference is the last to its cell
-pub took-last : (k f s q t : List ℕ) {n n′ k′ f′ n₁ s′ q′ t′ l l′ : List ℕ} {r : ℕ} {off : Bool} {a : Answer} → SharedOff n r n′ off → off ≡ false
-    → ((roots : List ℕ) → WorkFinished (release (start (tables k f n′ s roots q t)) r) k′ f′ n₁ s′ roots q′ t′ l l′ a)
-    → (roots : List ℕ) → WorkFinished (release (start (tables k f n s roots q t)) r) k′ f′ n₁ s′ roots q′ t′ l l′ a
-took-last k f s q t {k′ = k′} {f′} {n₁} {s′} {q′} {t′} {l} {l′} {r} {a = a} e left w roots =
-    subst (λ (m : List ℕ). WorkFinished (release (start (tables k f m s roots q t)) r) k′ f′ n₁ s′ roots q′ t′ l l′ a) (e .kept left) (w roots)
+  -- others name the cell too: a count fell, and nothing was freed or queued
+  pub took-shared : {n′ : List ℕ} {off : Bool} → SharedOff n r n′ off → off ≡ true → (refused freed queued cell : ℕ) → refused ≡ 0 → freed ≡ 0 → queued ≡ 0 → cell ≡ 0
+      → (roots : List ℕ) → WorkFinished (release (start (tables k f n s roots q t)) r) k f n′ s roots q t l l (answers refused freed queued cell)
+  took-shared {n′} e came refused freed queued cell done is grew none =
+      took k f n′ s q t l 0 (done-none (at-once k f n s q t 0 r p e came)) refused freed queued cell done is (omega arith) none
 
 -- ---- a root
 

@@ -231,10 +231,6 @@ fn take_off(
     ensures { λ a. ⌜ ((roots : List ℕ) → WorkFinished (release (start (tables (now (kind .entry)) (now (flags .entry)) (now (count .entry)) (now (slots .entry)) roots (now (queue .entry)) (now (control .entry)))) r)
         (now (kind .exit)) (now (flags .exit)) (now (count .exit)) (now (slots .exit)) roots (now (queue .exit)) (now (control .exit)) (now (freed .entry)) (now (freed .exit)) a) ⌝ }
 {
-    // Most references are not the last: they come off before anything else is asked.
-    if decref_shared(count, r) {
-        return done();
-    }
     let before = control[0];
     if freed.len() < kind.len() {
         let many = release_unlisted(kind, flags, count, slots, queue, control, r);
@@ -267,6 +263,10 @@ pub fn write_root(
     let old_root = roots[i];
     incref(count, r);
     roots[i] = r;
+    // Most references are not the last: they come off here, without a call that takes all the tables.
+    if decref_shared(count, old_root) {
+        return done();
+    }
     take_off(kind, flags, count, slots, queue, control, freed, old_root)
 }
 
@@ -291,5 +291,8 @@ pub fn write_slot(
     let old_slot = slots[i];
     incref(count, r);
     slots[i] = r;
+    if decref_shared(count, old_slot) {
+        return done();
+    }
     take_off(kind, flags, count, slots, queue, control, freed, old_slot)
 }

@@ -55,3 +55,12 @@ obey h LINE = refuse h 11
 pub record Obeyed (asked : Asked) (before after : Heap) (answer : Answer) : Type 0 where
   pub heap : after ≡ obey before asked .heap
   pub answered : answer ≡ obey before asked .answer
+
+-- one after another, each on the tables that the one before left: the tables in the end, and the answers
+unfoldable pub obeyAll : Heap → List Asked → Heap
+obeyAll h [] = h
+obeyAll h (q ∷ l) = obeyAll (obey h q .heap) l
+
+unfoldable pub answersTo : Heap → List Asked → List Answer
+answersTo h [] = []
+answersTo h (q ∷ l) = obey h q .answer ∷ answersTo (obey h q .heap) l

@@ -108,45 +108,14 @@ pub record Did (call : Call) (before : Heap) (lent : List ℕ) (after : Heap) (l
   pub freed : list ≡ listed lent (stepLent before lent call)
   pub answered : answer ≡ stepLent before lent call .answer
 
--- one call of a list: what it was, the table that it was lent, the tables and the list of freed cells that it left, and its answer
-pub record Event : Type 0 where
-  pub call : Call
-  pub lent : List ℕ
-  pub after : Heap
-  pub list : List ℕ
-  pub answer : Answer
-
--- "In a sequence each call finds the heap's tables as the one before left them; nobody else writes them in between." The lent table may be another each time
-abbrev pub Trace : Heap → List Event → Type 0
-Trace h [] = Unit
-Trace h (e ∷ l) = Did (e .call) h (e .lent) (e .after) (e .list) (e .answer) × Trace (e .after) l
-
--- event e of a list that starts on the tables h finds the tables `before`
-pub data Finds : Heap → List Event → Heap → Event → Type 0 where
-  here : {h : Heap} {e : Event} {l : List Event} → Finds h (e ∷ l) h e
-  later : {h before : Heap} {d e : Event} {l : List Event} → Finds (d .after) l before e → Finds h (d ∷ l) before e
-
--- tables as they are before the first call of the list, or after one of its calls
-pub data Between : Heap → List Event → Heap → Type 0 where
-  first : {h : Heap} {l : List Event} → Between h l h
-  behind : {h g : Heap} {d : Event} {l : List Event} → Between (d .after) l g → Between h (d ∷ l) g
-
--- "Demand 3's list starts from a FRESH done on tables of any N, whatever stood there": the tables that it leaves
-pub record Begins (h : Heap) : Type 0 where
-  pub stale : Heap
-  pub answer : Answer
-  pub did : Did FRESH stale [] h [] answer
-  pub done : answer .refused ≡ 0
+-- "A refusal changes no entry and reports freed 0, queued 0, cell 0." Q-5, of the lent table: "After a refusal it is as before."
+pub record Unchanged (before : Heap) (lent : List ℕ) (after : Heap) (list : List ℕ) (answer : Answer) : Type 0 where
+  pub tables : after ≡ before
+  pub kept : list ≡ lent
+  pub freed : answer .freed ≡ 0
+  pub queued : answer .queued ≡ 0
+  pub cell : answer .cell ≡ 0
 
 -- a table of N entries, for calls that are made without one of their own
 unfoldable pub room : Heap → List ℕ
 room h = replicate (cells h) 0
-
--- a call by the rules, lent that table
-abbrev pub eventOf : Heap → Call → Event
-eventOf h call = record { call = call; lent = room h; after = step h call .heap; list = listed (room h) (step h call); answer = step h call .answer }
-
--- the trace that a list of calls makes
-unfoldable pub run : Heap → List Call → List Event
-run h [] = []
-run h (call ∷ l) = eventOf h call ∷ run (step h call .heap) l

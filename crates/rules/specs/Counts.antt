@@ -15,7 +15,8 @@ use Rattle.rules.specs.Release.{Work, start, incref, decref, withPending
 use Rattle.rules.specs.Collect.{unreachedFinalizable, enqueueAll, garbage, lowerAll}
 use Rattle.rules.specs.Refusals.{Call, refusalLent}
 use Rattle.rules.specs.Refusals.Call.{FRESH, NEW, CLEAR, COPY, LOAD, STORE, COLLECT, START, FINISH}
-use Rattle.rules.specs.Calls.{held, leaveQueue, step, Did, Event, Trace, Finds, Begins, room}
+use Rattle.rules.specs.Calls.{held, leaveQueue, step, Did, room}
+use Rattle.rules.specs.Events.{calling, Event, Trace, Finds, Begins}
 
 -- ---- one take-off
 
@@ -126,7 +127,7 @@ pub record CountsAboveZero : Type 0 where
       → AboveZero call before lent after answer
   -- and so every call of every list from a FRESH done
   pub always : (h : Heap) → Begins h → (l : List Event) → Trace h l
-      → (before : Heap) (e : Event) → Finds h l before e → AboveZero (e .call) before (e .lent) (e .after) (e .answer)
+      → (before : Heap) (e : Event) → Finds h l before e → (c : Call) → e .request ≡ calling c → AboveZero c before (e .lent) (e .after) (e .answer)
   -- "would hide the very fault I fear": nothing does
   pub shows : (w : Work) (c : ℕ) → c < length (w .heap .count) → countOf (w .heap) c ≡ 0 → Shows w c
 

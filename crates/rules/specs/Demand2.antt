@@ -12,7 +12,8 @@ use Rattle.rules.specs.Heap.{Heap, countOf, Used}
 use Rattle.rules.specs.Sound.{bump, Ready}
 use Rattle.rules.specs.Refusals.{Call}
 use Rattle.rules.specs.Refusals.Call.{FRESH}
-use Rattle.rules.specs.Calls.{Did, Event, Trace, Between, Begins}
+use Rattle.rules.specs.Calls.{Did}
+use Rattle.rules.specs.Events.{Event, Trace, Between, Begins}
 use Rattle.rules.specs.Numbers.{TrueNumbers}
 
 -- one call on a heap that fits and is sound

@@ -11,7 +11,10 @@ use Rattle.rules.specs.Heap.{Heap, rootAt, entries, Used, Free}
 use Rattle.rules.specs.Reach.{Chain, Exact, LooseRing}
 use Rattle.rules.specs.Refusals.{Call}
 use Rattle.rules.specs.Refusals.Call.{FRESH, NEW, CLEAR, COPY, LOAD, STORE, COLLECT, START, FINISH}
-use Rattle.rules.specs.Calls.{held, Did, Event, Trace, Finds, Between, Begins}
+use Rattle.rules.specs.Calls.{held, Did}
+use Rattle.rules.specs.Asked.Asked.{call, LINE}
+use Rattle.rules.specs.Events.{Request, calling, Event, Trace, Finds, Between, Begins}
+use Rattle.rules.specs.Events.Request.{asked, batch}
 
 -- "A call frees a cell if the cell is used before it and free after it."
 pub record Frees (before after : Heap) (c : ℕ) : Type 0 where
@@ -33,13 +36,22 @@ stood h COLLECT n = h .slots
 stood h (START r) n = h .slots
 stood h FINISH n = h .slots
 
+-- four numbers that name no call, and a batch that is refused, write none
+abbrev pub stoodFor : Heap → Request → ℕ → List ℕ
+stoodFor h (asked (call c)) n = stood h c n
+stoodFor h (asked LINE) n = h .slots
+stoodFor h (batch b) n = h .slots
+
 -- "No call in it frees a cell that the roots and the queue, as the call leaves them, reach by the references that stood after its own write and before any freeing."
+abbrev pub SafeBy : Heap → Heap → List ℕ → Type 0
+SafeBy before after slots = (c : ℕ) → Frees before after c → ¬ Chain (after .roots) (entries after) slots c
+
 abbrev pub Safe : Heap → Event → Type 0
-Safe before e = (c : ℕ) → Frees before (e .after) c → ¬ Chain (e .after .roots) (entries (e .after)) (stood before (e .call) (e .answer .refused)) c
+Safe before e = SafeBy before (e .after) (stoodFor before (e .request) (e .answer .refused))
 
 -- "A completed sweep is a COLLECT answered with refusal 0."
 pub record CompletedSweep (e : Event) : Type 0 where
-  pub collects : e .call ≡ COLLECT
+  pub collects : e .request ≡ calling COLLECT
   pub done : e .answer .refused ≡ 0
 
 -- a sweep made next, lent some table: its tables and its answer

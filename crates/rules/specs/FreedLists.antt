@@ -6,7 +6,8 @@ use mathlib.Core.Path.{_≡_}
 use Rattle.rules.specs.Heap.{fresh}
 use Rattle.rules.specs.Refusals.{Call}
 use Rattle.rules.specs.Refusals.Call.{NEW, CLEAR, COPY, STORE, COLLECT, START, FINISH}
-use Rattle.rules.specs.Calls.{run}
+use Rattle.rules.specs.Asked.Asked.{call}
+use Rattle.rules.specs.Events.{run}
 
 pub record CallsListed : Type 0 where
   pub calls : List Call
@@ -37,4 +38,4 @@ listExamples =
     ∷ []
 
 abbrev pub ListExamples : Type 0
-ListExamples = map (λ e. map (λ x. x .list) (run (fresh 4) (e .calls))) listExamples ≡ map (λ e. e .lists) listExamples
+ListExamples = map (λ e. map (λ x. x .list) (run (fresh 4) (map call (e .calls)))) listExamples ≡ map (λ e. e .lists) listExamples

@@ -11,10 +11,13 @@ pub mod Words
 pub mod Collect
 pub mod Calls
 pub mod Asked
+pub mod Batch
+pub mod Events
 pub mod Numbers
 pub mod Demand1
 pub mod Demand2
 pub mod Demand3
+pub mod Mixed
 pub mod Rescue
 pub mod Freeing
 pub mod Counts

@@ -28,7 +28,7 @@ pub data Call : Type 0 where
   FINISH : Call
 
 pub data Reason : Type 0 where
-  SIZE DAMAGED NUMBER EMPTY KIND TAKEN FULL BUSY NONE IDLE : Reason
+  SIZE DAMAGED NUMBER EMPTY KIND TAKEN FULL BUSY NONE IDLE LINE TOTAL : Reason
 
 unfoldable pub number : Reason → ℕ
 number SIZE = 1
@@ -41,6 +41,8 @@ number FULL = 7
 number BUSY = 8
 number NONE = 9
 number IDLE = 10
+number LINE = 11
+number TOTAL = 12
 
 -- the numbers among a call's arguments that stand for roots, and those that stand for slots
 unfoldable pub rootNumbers : Call → List ℕ

@@ -4,7 +4,7 @@ use Prim.Native.Nat.{ℕ, _≤_}
 use mathlib.Core.List.{List}
 use Rattle.rules.specs.Heap.{Heap, Used}
 use Rattle.rules.specs.Reach.{LooseRing}
-use Rattle.rules.specs.Calls.{Event, Trace, Finds, Begins}
+use Rattle.rules.specs.Events.{Event, Trace, Finds, Begins}
 use Rattle.rules.specs.Demand3.{Frees, CompletedSweep}
 
 -- a call of the list, with the tables that it finds

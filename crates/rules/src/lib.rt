@@ -1,5 +1,6 @@
 // What every crate of the heap shares: the limits, the refusal numbers and the answers. The rules are in specs/.
 pub mod audit;
+pub mod batch;
 
 // The most cells of a heap, its roots, and the slots of a cell.
 pub const CELLS_MAX: usize = 1024;

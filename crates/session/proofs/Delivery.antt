@@ -16,6 +16,7 @@ use Rattle.csv.specs.declared.reader.Last.{Last}
 use Rattle.csv.specs.declared.reader.Last.the-variants.{Nothing, Final}
 use Rattle.csv.proofs.Whole.{reads-all}
 use Rattle.rules.specs.Heap.{Heap}
+use Rattle.rules.specs.Asked.{obeyAll}
 use Rattle.session.specs.declared.taking.Progress.{Progress}
 use Rattle.session.specs.Session.{lineFor, session, afterAll}
 use Rattle.session.specs.Taking.{heapAfter, readerAfter, textFor, State, begun, advance, takes, ends, Gave}
@@ -26,7 +27,7 @@ use Rattle.session.proofs.Session.{session-append, after-append}
 -- ---- some input was taken
 
 pub took-none : (s : Reader) (h : Heap) → Took s h [] s h
-unfolding afterAll
+unfolding obeyAll
 took-none s h = record { lines = []; read = λ rest. refl; heap = refl }
 
 pub took-more : (s r t : Reader) (p q : List ℕ) (h k m : Heap) → Took s h p r k → Took r k q t m → Took s h (p ++ q) t m
@@ -70,7 +71,7 @@ byte-read (More s) after = refl
 byte-read (Line l) after = refl
 
 byte-heap : (h : Heap) (step : Step) → heapAfter h step ≡ afterAll h (ending step)
-unfolding heapAfter ending afterAll
+unfolding heapAfter ending obeyAll
 byte-heap h (More s) = refl
 byte-heap h (Line l) = refl
 
@@ -151,7 +152,7 @@ record EndWent (s : Reader) (h : Heap) (y : State) : Type 0 where
   text : y .text ≡ session h lines
 
 end-went : (room : ℕ) (h : Heap) (s : Reader) → EndWent s h (ends room h s (closed s))
-unfolding ends records closed atEnd afterAll session
+unfolding ends records closed atEnd obeyAll session
 end-went room h s = go (closed s) (leb 31 room) refl refl
   where
     go : (last : Last) (t : Bool) → closed s ≡ last → leb 31 room ≡ t → EndWent s h (ends room h s last)
@@ -161,7 +162,7 @@ end-went room h s = go (closed s) (leb 31 room) refl refl
     go (Final l) false e f = rw f (record { lines = []; read = refl; heap = refl; text = refl })
 
 delivered-from : {s : Reader} {h m : Heap} {input w : List ℕ} → Delivered s h input w m → From s h input w m
-unfolding records closed atEnd session afterAll
+unfolding records closed atEnd session obeyAll
 delivered-from (handed {s} {h} {k} {m} bytes later before after r {w} g d) =
     let y : State = takes (length before) (begun h s) bytes in
     let v : Went (begun h s) bytes y = went (length before) (begun h s) bytes in

@@ -1,7 +1,7 @@
 -- Document 01, "The program": what each line of the input does, and the output line that it gets.
 -- Assumes nothing: these are definitions.
 use Prim.Native.Nat.{ℕ}
-use mathlib.Core.List.{List, [], _∷_, _++_}
+use mathlib.Core.List.{List, [], _∷_, _++_, map}
 use mathlib.Core.Bool.{cond}
 use lib.Dec.{eqb}
 use Rattle.csv.specs.Decimal.{rendered}
@@ -9,7 +9,7 @@ use Rattle.csv.specs.declared.reader.Record.{Record}
 use Rattle.csv.specs.declared.reader.Record.the-variants.{Numbers, Malformed}
 use Rattle.rules.specs.declared.Answer.{Answer}
 use Rattle.rules.specs.Heap.{Heap}
-use Rattle.rules.specs.Asked.{Asked, callOf, obey}
+use Rattle.rules.specs.Asked.{Asked, callOf, obey, obeyAll}
 use Rattle.rules.specs.Asked.Asked.{LINE}
 
 -- what a line asks for: "the call's number 1 to 8, then its arguments"; "any other line" is LINE
@@ -39,6 +39,5 @@ session h [] = []
 session h (r ∷ rs) = lineFor h r ++ session (afterLine h r) rs
 
 -- the heap after all lines
-unfoldable pub afterAll : Heap → List Record → Heap
-afterAll h [] = h
-afterAll h (r ∷ rs) = afterAll (afterLine h r) rs
+abbrev pub afterAll : Heap → List Record → Heap
+afterAll h rs = obeyAll h (map askedOf rs)

@@ -2,13 +2,14 @@
 use Prim.Native.Nat.{ℕ, zero, suc, _≤_, _<_}
 use native.Mathlib.Omega.{arith}
 use mathlib.Core.List.{List}
-use mathlib.Core.Path.{_≡_, refl, sym, ap, _∙_}
+use mathlib.Core.Path.{_≡_, refl, sym, ap, _∙_, subst}
 use mathlib.Core.Logic.{_≢_, _⊎_, inl, inr}
 use mathlib.Core.Bool.{Bool, true, false, cond}
 use lib.ListN.{List·getD-eq-default}
 use Rattle.rules.specs.declared.Answer.{Answer}
 use Rattle.rules.specs.Heap.{Heap}
 use Rattle.rules.specs.Refusals.{Call, isFresh}
+use Rattle.rules.specs.Refusals.Call.{NEW, CLEAR, COPY, LOAD, STORE, COLLECT, START, FINISH}
 use Rattle.rules.specs.Calls.{Result, answers, refuse, step}
 use Rattle.rules.specs.Asked.{Asked, uses, unusedZero, callsByNumber, callNumbered, callOf, isCall, obey, Obeyed}
 use Rattle.rules.specs.Asked.Asked.{call, LINE}
@@ -45,7 +46,7 @@ pub call-unused : (n x y z : ℕ) → unusedZero (uses n) x y z ≡ false → ca
 unfolding callOf
 call-unused n x y z h = rw h
 
-pub call-used : (n x y z : ℕ) → unusedZero (uses n) x y z ≡ true → callOf n x y z ≡ callNumbered n x y z
+call-used : (n x y z : ℕ) → unusedZero (uses n) x y z ≡ true → callOf n x y z ≡ callNumbered n x y z
 unfolding callOf
 call-used n x y z h = rw h refl
 
@@ -54,13 +55,64 @@ pub numbered-other : (n x y z : ℕ) → 6 ≤ n → (n ≡ 6 → ⊥) → (n �
 numbered-other n x y z l a b c = none-numbered n x y z (omega arith)
 
 -- a call that was done
-pub obeyed-call : (h k : Heap) (q : Asked) (c : Call) (a : Answer) {room list : List ℕ} → q ≡ call c → Ran c h room k list a → Obeyed q h k a
+obeyed-call : (h k : Heap) (q : Asked) (c : Call) (a : Answer) {room list : List ℕ} → q ≡ call c → Ran c h room k list a → Obeyed q h k a
 unfolding obey
 obeyed-call h k q c a e r = rw e (record { heap = r .heap; answered = r .answered })
 
 pub obeyed-line : (h : Heap) (q : Asked) (a : Answer) → q ≡ LINE → a ≡ answers 11 0 0 0 → Obeyed q h h a
 unfolding obey refuse
 obeyed-line h q a e w = rw e (record { heap = refl; answered = w })
+
+-- ---- the numbers of the call are those that are asked by
+
+-- the calls by their numbers
+module _ (n x y z : ℕ) {h k : Heap} {a : Answer} {room list : List ℕ} where
+  pub obeyed-new : {u v w : ℕ} → Ran (NEW u v w) h room k list a → n ≡ 1 → x ≡ u → y ≡ v → z ≡ w → Obeyed (callNumbered n x y z) h k a
+  unfolding callNumbered
+  obeyed-new r e f g i = obeyed-call h k _ _ a (λ j. callNumbered (e j) (f j) (g j) (i j)) r
+
+  pub obeyed-clear : {u : ℕ} → Ran (CLEAR u) h room k list a → n ≡ 2 → x ≡ u → Obeyed (callNumbered n x y z) h k a
+  unfolding callNumbered
+  obeyed-clear r e f = obeyed-call h k _ _ a (λ j. callNumbered (e j) (f j) y z) r
+
+  pub obeyed-copy : {u v : ℕ} → Ran (COPY u v) h room k list a → n ≡ 3 → x ≡ u → y ≡ v → Obeyed (callNumbered n x y z) h k a
+  unfolding callNumbered
+  obeyed-copy r e f g = obeyed-call h k _ _ a (λ j. callNumbered (e j) (f j) (g j) z) r
+
+  pub obeyed-load : {u v w : ℕ} → Ran (LOAD u v w) h room k list a → n ≡ 4 → x ≡ u → y ≡ v → z ≡ w → Obeyed (callNumbered n x y z) h k a
+  unfolding callNumbered
+  obeyed-load r e f g i = obeyed-call h k _ _ a (λ j. callNumbered (e j) (f j) (g j) (i j)) r
+
+  pub obeyed-store : {u v w : ℕ} → Ran (STORE u v w) h room k list a → n ≡ 5 → x ≡ u → y ≡ v → z ≡ w → Obeyed (callNumbered n x y z) h k a
+  unfolding callNumbered
+  obeyed-store r e f g i = obeyed-call h k _ _ a (λ j. callNumbered (e j) (f j) (g j) (i j)) r
+
+  pub obeyed-collect : Ran COLLECT h room k list a → n ≡ 6 → Obeyed (callNumbered n x y z) h k a
+  unfolding callNumbered
+  obeyed-collect r e = obeyed-call h k _ _ a (λ j. callNumbered (e j) x y z) r
+
+  pub obeyed-start : {u : ℕ} → Ran (START u) h room k list a → n ≡ 7 → x ≡ u → Obeyed (callNumbered n x y z) h k a
+  unfolding callNumbered
+  obeyed-start r e f = obeyed-call h k _ _ a (λ j. callNumbered (e j) (f j) y z) r
+
+  pub obeyed-finish : Ran FINISH h room k list a → n ≡ 8 → Obeyed (callNumbered n x y z) h k a
+  unfolding callNumbered
+  obeyed-finish r e = obeyed-call h k _ _ a (λ j. callNumbered (e j) x y z) r
+
+-- the test of the arguments
+pub used-numbers : {n x y z : ℕ} (m u v w : ℕ) → unusedZero (uses n) x y z ≡ true → n ≡ m → x ≡ u → y ≡ v → z ≡ w → unusedZero (uses m) u v w ≡ true
+used-numbers m u v w t e f g i = sym (λ j. unusedZero (uses (e j)) (f j) (g j) (i j)) ∙ t
+
+-- the call with this number, after the test
+pub obeyed-used : {n x y z : ℕ} {h k : Heap} {a : Answer} (m u v w : ℕ) → unusedZero (uses m) u v w ≡ true → Obeyed (callNumbered n x y z) h k a
+    → n ≡ m → x ≡ u → y ≡ v → z ≡ w → Obeyed (callOf m u v w) h k a
+obeyed-used {h = h} {k = k} {a = a} m u v w t o e f g i =
+    rw (call-used m u v w t) (subst (λ (q : Asked). Obeyed q h k a) (λ j. callNumbered (e j) (f j) (g j) (i j)) o)
+
+-- the call that four numbers name
+pub obeyed-numbers : {n x y z : ℕ} {h k : Heap} {a : Answer} (m u v w : ℕ) → Obeyed (callOf n x y z) h k a → n ≡ m → x ≡ u → y ≡ v → z ≡ w
+    → Obeyed (callOf m u v w) h k a
+obeyed-numbers {h = h} {k = k} {a = a} m u v w o e f g i = subst (λ (q : Asked). Obeyed q h k a) (λ j. callOf (e j) (f j) (g j) (i j)) o
 
 -- ---- whether a call is named
 

@@ -1,4 +1,4 @@
--- A list of conditions that refuse a call, of which the lowest that is given counts.
+-- A list of conditions that refuse a call or a batch, of which the lowest that is given counts.
 -- Assumes nothing.
 use Prim.Native.Nat.{ℕ, _≤_}
 use native.Mathlib.Omega.{arith}
@@ -6,9 +6,8 @@ use mathlib.Core.List.{List, [], _∷_}
 use mathlib.Core.Bool.{true, false}
 use mathlib.Core.Logic.{_⊎_, inl, inr, ⊎-elim}
 use mathlib.Core.Path.{_≡_, refl}
-use Rattle.rules.specs.Heap.{Heap}
-use Rattle.rules.specs.Refusals.{Call, Reason, number, Why, Condition, lowest}
-use Rattle.rules.specs.Refusals.Reason.{SIZE, DAMAGED, NUMBER, EMPTY, KIND, TAKEN, FULL, BUSY, NONE, IDLE}
+use Rattle.rules.specs.Refusals.{Reason, number, Condition, lowest}
+use Rattle.rules.specs.Refusals.Reason.{SIZE, DAMAGED, NUMBER, EMPTY, KIND, TAKEN, FULL, BUSY, NONE, IDLE, LINE, TOTAL}
 use Rattle.laws.specs.Lists.Tests.{split, clash}
 
 pub number-some : (k : Reason) → 1 ≤ number k
@@ -23,6 +22,8 @@ number-some FULL = omega arith
 number-some BUSY = omega arith
 number-some NONE = omega arith
 number-some IDLE = omega arith
+number-some LINE = omega arith
+number-some TOTAL = omega arith
 
 -- none of them is given
 abbrev pub Open : List Condition → Type 0
@@ -35,20 +36,19 @@ lowest-open [] e = tt
 lowest-open (k ∷ l) e =
     ⊎-elim (λ t. absurd (omega (arith, number-some (k .reason), rw t at e))) (λ f. (f, lowest-open l (rw f at e))) (split (k .given))
 
--- each says what the table says, where those before it are not given
-abbrev pub Judges : Heap → List ℕ → Call → List Condition → Type 0
-Judges h lent call [] = Unit
-Judges h lent call (k ∷ l) = (k .given ≡ true → Why (k .reason) h lent call) × (k .given ≡ false → Judges h lent call l)
+-- each says what a table says, where those before it are not given; `why` is the table's lines for one call or one batch
+abbrev pub Judges : (Reason → Type 0) → List Condition → Type 0
+Judges why [] = Unit
+Judges why (k ∷ l) = (k .given ≡ true → why (k .reason)) × (k .given ≡ false → Judges why l)
 
--- a number that refuses a call, or 0
-abbrev pub Verdict : Heap → List ℕ → Call → ℕ → Type 0
-Verdict h lent call n = (n ≡ 0) ⊎ ((k : Reason) × (n ≡ number k) × Why k h lent call)
+-- a number that refuses by that table, or 0
+abbrev pub Verdict : (Reason → Type 0) → ℕ → Type 0
+Verdict why n = (n ≡ 0) ⊎ ((k : Reason) × (n ≡ number k) × why k)
 
-pub judged : (h : Heap) (lent : List ℕ) (call : Call) (l : List Condition) → Judges h lent call l → Verdict h lent call (lowest l)
+pub judged : (why : Reason → Type 0) (l : List Condition) → Judges why l → Verdict why (lowest l)
 unfolding lowest
-judged h lent call [] j = inl refl
-judged h lent call (k ∷ l) j =
-    ⊎-elim (λ t. rw t (inr (k .reason, refl, j .0 t))) (λ f. rw f (judged h lent call l (j .1 f))) (split (k .given))
+judged why [] j = inl refl
+judged why (k ∷ l) j = ⊎-elim (λ t. rw t (inr (k .reason, refl, j .0 t))) (λ f. rw f (judged why l (j .1 f))) (split (k .given))
 
 -- one is given, and it and those before it have numbers up to n
 abbrev pub Given : ℕ → List Condition → Type 0

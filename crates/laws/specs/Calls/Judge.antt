@@ -5,7 +5,7 @@ use Prim.Native.Nat.{ℕ, suc, _-_, _≤_, _<_}
 use native.Mathlib.Decide.{ℕ-discrete, decLt}
 use native.Mathlib.Omega.{arith}
 use mathlib.Core.List.{List, [], _∷_}
-use mathlib.Core.Bool.{Bool, true, false, not, _&&_}
+use mathlib.Core.Bool.{true, false, not, _&&_}
 use mathlib.Core.Logic.{_⊎_, inl, inr, ⊎-elim, _≢_, by-cases}
 use mathlib.Core.Path.{_≡_, refl, ap}
 use lib.Dec.{ltb}
@@ -19,7 +19,7 @@ use Rattle.rules.specs.Refusals.Call.{FRESH, NEW, CLEAR, COPY, LOAD, STORE, COL
 use Rattle.rules.specs.Refusals.Reason.{SIZE, DAMAGED, NUMBER}
 use Rattle.rules.specs.Refusals.Why.{unsized, lentSize, unsound, highRoot, highSlot, badKind, badWish, notObject, loadEmpty, storeEmpty, loadKind, storeKind}
 use Rattle.rules.specs.Refusals.Why.{newTaken, startTaken, full, busy, none, idle}
-use Rattle.laws.specs.Lists.Tests.{split, clash, fails, and-join, and-left, and-right}
+use Rattle.laws.specs.Lists.Tests.{split, clash, refuted, and-join, and-left, and-right}
 use Rattle.laws.specs.Sound.Reflect.{fits-sized, sized-fits, unfit, sound-of, of-sound}
 use Rattle.laws.specs.Reach.Used.{root-used}
 use Rattle.laws.specs.Sound.Facts.{ready-facts, tests-ready}
@@ -62,7 +62,7 @@ new-number h lent r k f t = elim (decLt 63 r) [
 ]
 
 -- the conditions of each call, one after the other
-judges : (h : Heap) (lent : List ℕ) (call : Call) → (isFresh call ≡ false → Ready h) → Judges h lent call (conditions h call)
+judges : (h : Heap) (lent : List ℕ) (call : Call) → (isFresh call ≡ false → Ready h) → Judges (λ k. Why k h lent call) (conditions h call)
 unfolding conditions isFresh rootNumbers slotNumbers
 judges h lent FRESH s = tt
 judges h lent (NEW r k f) s = (
@@ -102,10 +102,10 @@ judges h lent (START r) s = (
 judges h lent FINISH s = (λ t. idle (eqb-true _ _ t), λ a. tt)
 
 -- a refusal's number is one that the table gives
-heap-judge : (h : Heap) (lent : List ℕ) (call : Call) → Verdict h lent call (refusal h call)
+heap-judge : (h : Heap) (lent : List ℕ) (call : Call) → Verdict (λ k. Why k h lent call) (refusal h call)
 unfolding refusal
 heap-judge h lent call =
-    judged h lent call _ (
+    judged (λ k. Why k h lent call) _ (
       λ t. unsized (λ z. clash (sized-fits h z) (not-true _ t)),
       λ a. (
         λ t. let z = fits-sized h (not-false _ a) in
@@ -116,7 +116,7 @@ heap-judge h lent call =
       ),
     )
 
-pub judge : (h : Heap) (lent : List ℕ) (call : Call) → Verdict h lent call (refusalLent h lent call)
+pub judge : (h : Heap) (lent : List ℕ) (call : Call) → Verdict (λ k. Why k h lent call) (refusalLent h lent call)
 unfolding number
 judge h lent call =
     ⊎-elim
@@ -125,9 +125,6 @@ judge h lent call =
     (split (lentFits h lent call))
 
 -- ---- what the table says, the tests find
-
-refuted : (b : Bool) → (b ≡ true → ⊥) → not b ≡ true
-refuted b n = ap not (fails b n)
 
 -- 3 NUMBER, by a root, by a slot, and by NEW's kind and wish
 high-root : (h : Heap) (call : Call) (i : ℕ) → 63 < getD (rootNumbers call) i 0 → Given 3 (conditions h call)

@@ -11,12 +11,8 @@ use borrow.Author.Tests.{eqb-true, eqb-false, eq-eqb, ne-eqb}
 use Rattle.rules.specs.Heap.{Heap, cells}
 use Rattle.rules.specs.Refusals.{Call, number, isFresh, refusal, lentFits, refusalLent}
 use Rattle.rules.specs.Refusals.Call.{FRESH}
-use Rattle.laws.specs.Lists.Tests.{clash}
+use Rattle.laws.specs.Lists.Tests.{or-false}
 use Rattle.laws.specs.Calls.Arguments.{fresh-only, not-fresh}
-
-or-false : (a b : Bool) → (a || b) ≡ false → (a ≡ false) × (b ≡ false)
-or-false true b e = clash refl e
-or-false false b e = (refl, e)
 
 pub lent-fits : (h : Heap) (lent : List ℕ) (call : Call) → lentFits h lent call ≡ true → refusalLent h lent call ≡ refusal h call
 unfolding refusalLent

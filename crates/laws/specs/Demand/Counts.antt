@@ -5,7 +5,7 @@ use native.Mathlib.Omega.{arith}
 use mathlib.Core.List.{List, [], _∷_}
 use mathlib.Core.Bool.{false}
 use mathlib.Core.Logic.{⊎-elim}
-use mathlib.Core.Path.{_≡_, refl, sym, _∙_, ap}
+use mathlib.Core.Path.{_≡_, refl, sym, _∙_, ap, subst}
 use lib.ListN.{length, getD, set}
 use lib.Seq.{getD-set-same}
 use Rattle.rules.specs.declared.Answer.{Answer}
@@ -16,6 +16,7 @@ use Rattle.rules.specs.Collect.{lowerAll}
 use Rattle.rules.specs.Refusals.{Call, isFresh, refusal, lentFits, refusalLent}
 use Rattle.rules.specs.Refusals.Call.{FRESH}
 use Rattle.rules.specs.Calls.{refuse, byRefusal, stepLent, Did}
+use Rattle.rules.specs.Events.{Request, Happened}
 use Rattle.rules.specs.Counts.{met, actMet, byRefusalMet, stepMet, placed, AboveZero, Shows, CountsAboveZero}
 use Rattle.laws.specs.Lists.Tests.{split}
 use Rattle.laws.specs.Lists.Occ.{occ-nil}
@@ -84,6 +85,8 @@ shows w c stands e =
 pub counts-above-zero : CountsAboveZero
 counts-above-zero = record {
   each = λ call before lent after list answer d r. did-above d (ready-facts r);
-  always = λ h b l t before e f. let x = found-sound l (begins-sound b) t f in did-above (x .1) (x .0);
+  always = λ h b l t before e f c is.
+      let x = found-sound l (begins-sound b) t f in
+      did-above (subst (λ (q : Request). Happened q before (e .lent) (e .after) (e .list) (e .answer)) is (x .1)) (x .0);
   shows = shows;
 }

@@ -2,7 +2,7 @@
 -- counts that the take-offs of the examples in `Counts` meet.
 -- Assumes nothing.
 use Prim.Native.Nat.{ℕ}
-use mathlib.Core.List.{List, [], _∷_}
+use mathlib.Core.List.{List, [], _∷_, map}
 use mathlib.Core.Path.{refl}
 use lib.ListN.{replicate}
 use Rattle.rules.specs.declared.Answer.{Answer}
@@ -15,7 +15,10 @@ use Rattle.rules.specs.Release.{start, raise, incref, finalizable, refzero, dec
 use Rattle.rules.specs.Marking.{mark, markIf, spreadFrom, spread, closure, markFrom}
 use Rattle.rules.specs.Collect.{reachedMarks, unreachedFinalizable, enqueueAll, keptMarks, garbage, lowerAll, unlinkAll, wipeAll, rescued, rescueAll, swept, collect}
 use Rattle.rules.specs.Calls.{refuse, done, finished, allocate, writeRoot, writeSlot, startRun, leaveQueue, finishRun, act, byRefusal, step, answers}
-use Rattle.rules.specs.Calls.{stepLent, references, byAnswer, listed, Did, Event, Trace, Begins, room, run}
+use Rattle.rules.specs.Calls.{stepLent, references, byAnswer, listed, Did, room}
+use Rattle.rules.specs.Asked.{obey}
+use Rattle.rules.specs.Asked.Asked.{call}
+use Rattle.rules.specs.Events.{calling, Event, Trace, Begins, run}
 use Rattle.rules.specs.FreedLists.{listExamples, ListExamples}
 use Rattle.rules.specs.Counts.{met, decrefsMet, serveMet, drainMet, releaseMet, lowerAllMet, unlinkAllMet, collectMet, writeRootMet, writeSlotMet, finishRunMet}
 use Rattle.rules.specs.Counts.{actMet, byRefusalMet, stepMet, runMet, examples, MetExamples}
@@ -66,8 +69,8 @@ runningRing = two 1 0 1 3 0 1 1 0 1 1 1
 
 -- the table for the freed cells is lent empty, and names so many of them afterwards, at most one here
 abbrev event : Call → Heap → (named freed queued cell : ℕ) → Event
-event call after named freed queued cell = record {
-  call = call;
+event c after named freed queued cell = record {
+  request = calling c;
   lent = replicate 2 0;
   after = after;
   list = named ∷ 0 ∷ [];
@@ -93,7 +96,7 @@ events =
 
 -- a call that is lent no table
 abbrev pub Alone : Call → Heap → Heap → Answer → Type 0
-Alone call before after answer = Did call before [] after [] answer
+Alone c before after answer = Did c before [] after [] answer
 
 -- FRESH done on the stale tables and then the list; two calls beside it, FRESH on a used cell, and LOAD from a root that is too high; the counts met, and the
 -- lists of freed cells
@@ -104,12 +107,12 @@ unfolding every all below occ distinct select slotsOf fresh setKind setFlags set
     cellAt refOk entryOk runningOk refs countOk sound number lowest lowestFree newOk objectOk conditions isFresh refusal start raise incref finalizable
     refzero decremented lower decref decrefs withPending retire serve drain release mark markIf spreadFrom spread closure markFrom reachedMarks unreachedFinalizable
     enqueueAll keptMarks garbage lowerAll unlinkAll wipeAll rescued rescueAll swept collect refuse done finished allocate writeRoot writeSlot startRun
-    leaveQueue finishRun act byRefusal step run met decrefsMet serveMet drainMet releaseMet lowerAllMet unlinkAllMet collectMet writeRootMet writeSlotMet
+    leaveQueue finishRun act byRefusal step obey run met decrefsMet serveMet drainMet releaseMet lowerAllMet unlinkAllMet collectMet writeRootMet writeSlotMet
     finishRunMet actMet byRefusalMet stepMet runMet examples lentFits refusalLent stepLent references byAnswer listed room listExamples
 computed = (
   record { heap = refl; freed = refl; answered = refl },
-  run-trace empty
-      (NEW 0 1 0 ∷ NEW 1 1 0 ∷ STORE 0 0 1 ∷ CLEAR 1 ∷ STORE 0 0 1 ∷ CLEAR 0 ∷ NEW 0 1 1 ∷ STORE 0 0 0 ∷ CLEAR 0 ∷ COLLECT ∷ START 0 ∷ FINISH ∷ COLLECT ∷ []),
+  run-trace empty (map call
+      (NEW 0 1 0 ∷ NEW 1 1 0 ∷ STORE 0 0 1 ∷ CLEAR 1 ∷ STORE 0 0 1 ∷ CLEAR 0 ∷ NEW 0 1 1 ∷ STORE 0 0 0 ∷ CLEAR 0 ∷ COLLECT ∷ START 0 ∷ FINISH ∷ COLLECT ∷ [])),
   record { heap = refl; freed = refl; answered = refl },
   record { heap = refl; freed = refl; answered = refl },
   refl,

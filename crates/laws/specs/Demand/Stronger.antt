@@ -17,11 +17,12 @@ use Rattle.rules.specs.Refusals.{Call, Reason, number, Why}
 use Rattle.rules.specs.Refusals.Call.{FRESH, LOAD, STORE}
 use Rattle.rules.specs.Refusals.Reason.{EMPTY}
 use Rattle.rules.specs.Refusals.Why.{loadEmpty}
-use Rattle.rules.specs.Calls.{Did, Event, Trace, Finds, Between, Begins}
-use Rattle.rules.specs.Calls.Finds.{here, later}
-use Rattle.rules.specs.Calls.Between.{first, behind}
+use Rattle.rules.specs.Calls.{Did}
+use Rattle.rules.specs.Events.{calling, Event, Trace, Finds, Between, Begins}
+use Rattle.rules.specs.Events.Finds.{here, later}
+use Rattle.rules.specs.Events.Between.{first, behind}
 use Rattle.rules.specs.Numbers.{freedCells, TrueNumbers}
-use Rattle.rules.specs.Demand3.{Frees, stood, NextSweep}
+use Rattle.rules.specs.Demand3.{Frees, stoodFor, NextSweep}
 use Rattle.laws.specs.Demand.Second.{demand-2}
 use Rattle.laws.specs.Demand.Example.{empty, oneObject, holding, ring, queuedRing, events, begins, trace, fresh-clears, load-refused}
 use Rattle.laws.specs.Demand.Witness.{nothing-reached, stands-loose}
@@ -65,13 +66,13 @@ always-exact-false claim = nothing-reached _ 0 (claim empty begins events trace 
 
 -- no call frees a cell that the roots reached before it: CLEAR of the last root does
 pub roots-before-false :
-    ¬ OfCalls (λ before e. (c : ℕ) → Frees before (e .after) c → ¬ Chain (before .roots) (entries (e .after)) (stood before (e .call) (e .answer .refused)) c)
+    ¬ OfCalls (λ before e. (c : ℕ) → Frees before (e .after) c → ¬ Chain (before .roots) (entries (e .after)) (stoodFor before (e .request) (e .answer .refused)) c)
 roots-before-false claim =
     claim empty begins events trace oneObject _ (later (later (later (later (later here))))) 0 (record { used = lit≤ tt; free = refl }) (root 0 refl)
 
 -- what stood for a STORE is the slots as it found them: one that replaces a reference frees what that named
 pub slots-before-false :
-    ¬ OfCalls (λ before e. (o s from : ℕ) → e .call ≡ STORE o s from → (c : ℕ) → Frees before (e .after) c
+    ¬ OfCalls (λ before e. (o s from : ℕ) → e .request ≡ calling (STORE o s from) → (c : ℕ) → Frees before (e .after) c
     → ¬ Chain (e .after .roots) (entries (e .after)) (before .slots) c)
 slots-before-false claim =
     claim empty begins events trace holding _ (later (later (later (later here)))) 0 0 1 refl 1 (record { used = lit≤ tt; free = refl })

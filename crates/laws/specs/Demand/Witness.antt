@@ -9,7 +9,7 @@ use lib.ListN.{replicate}
 use Rattle.rules.specs.Reach.{Chain, Loose, LooseRing}
 use Rattle.rules.specs.Reach.Chain.{root, entry, further}
 use Rattle.rules.specs.Reach.LooseChain.{one}
-use Rattle.rules.specs.Calls.Finds.{here, later}
+use Rattle.rules.specs.Events.Finds.{here, later}
 use Rattle.rules.specs.Witness.{Witness}
 use Rattle.laws.specs.Lists.Tables.{getD-zeros}
 use Rattle.laws.specs.Demand.Example.{empty, holding, ring, events, begins, trace}

@@ -4,7 +4,7 @@ use Prim.Native.Nat.{ℕ, zero, suc, _≤_, _<_}
 use native.Mathlib.Omega.{arith}
 use native.Mathlib.Decide.{ℕ-discrete}
 use mathlib.Core.List.{List, [], _∷_}
-use mathlib.Core.Bool.{Bool, true, false, _&&_}
+use mathlib.Core.Bool.{Bool, true, false, not, _&&_, _||_}
 use mathlib.Core.Logic.{_⊎_, inl, inr}
 use mathlib.Core.Path.{_≡_, refl, sym, ap, _∙_}
 use lib.ListN.{length, getD}
@@ -23,6 +23,9 @@ clash p q = absurd (mathlib.Core.Bool.true≢false (sym p ∙ q))
 pub fails : (b : Bool) → (b ≡ true → ⊥) → b ≡ false
 fails true n = absurd (n refl)
 fails false n = refl
+
+pub refuted : (b : Bool) → (b ≡ true → ⊥) → not b ≡ true
+refuted b n = ap not (fails b n)
 
 pub tests-agree : (a b : Bool) → (a ≡ true → b ≡ true) → (b ≡ true → a ≡ true) → a ≡ b
 tests-agree true b f g = sym (f refl)
@@ -43,6 +46,10 @@ and-right false b p = clash p refl
 pub and-no : (a : Bool) {b : Bool} → b ≡ false → (a && b) ≡ false
 and-no true e = e
 and-no false e = refl
+
+pub or-false : (a b : Bool) → (a || b) ≡ false → (a ≡ false) × (b ≡ false)
+or-false true b e = clash refl e
+or-false false b e = (refl, e)
 
 -- ---- a number
 

@@ -1,15 +1,9 @@
 -- `steps::moving` meets its contract: each arm is an entry of the table of calls, done as its callee says. Assumes nothing.
 use native.Mathlib.Omega.{arith}
-use Rattle.rules.specs.Asked.{callNumbered}
-use Rattle.laws.specs.Calls.Asked.{obeyed-call}
-use mathlib.Core.Path.{_≡_, refl}
-use Prim.Native.Nat.{ℕ, _≤_}
+use Rattle.laws.specs.Calls.Asked.{obeyed-copy, obeyed-load, obeyed-store}
+use mathlib.Core.Path.{refl}
 use Rattle.steps.proofs.moving.Statement.{statement}
 use Rattle.steps.proofs.moving.Tie as tie
-
--- the last of the three
-five : {op : ℕ} → (3 ≤ op) × (op ≤ 5) → (op ≡ 3 → ⊥) → (op ≡ 4 → ⊥) → op ≡ 5
-five b n m = omega (arith, b .0, b .1)
 
 -- where each call has returned
 abbrev after-copy : tie.After-slice-known16 → tie.After-copy
@@ -22,34 +16,38 @@ abbrev after-store : tie.After-slice-known31 → tie.After-store
 after-store c = c .before .before .before .before .before .before .before .before .before .before .before .before .before .before
 
 returns : tie.Need-returns
-unfolding callNumbered
 returns c =
-    let match =
-    c .before .before .before .before .before .before .before .before .before .before .before .before .before .before .before .before .before .before
-    .before .before .before .before .before .before .before .match in
-    let copy = c .before .before .before .before .before .before .before .before .before .before .before .before .before .before .before .before .copy in
-    obeyed-call _ _ _ _ _ (rw (match .keys1)) (copy .ensures)
+    let after = after-copy c in
+    let entry =
+    after .before .before .before .before .before .before .before .before .before .before .before .before .before .before .before .before
+    .before .before in
+    let match = after .before .before .before .before .before .before .before .before .before .match in
+    let a = entry .args in
+    obeyed-copy (a .op) (a .x) (a .y) (a .z) (after .copy .ensures)
+    (omega (arith, match .keys1)) (omega arith) (omega arith)
 
 returns-2 : tie.Need-returns-2
-unfolding callNumbered
 returns-2 c =
-    let match =
-    c .before .before .before .before .before .before .before .before .before .before .before .before .before .before .before .before .before .before
-    .before .before .before .before .before .before .before .match in
-    let load = c .before .before .before .before .before .before .before .before .before .before .before .before .before .before .before .before .load in
-    obeyed-call _ _ _ _ _ (rw (match .keys2)) (load .ensures)
+    let after = after-load c in
+    let entry =
+    after .before .before .before .before .before .before .before .before .before .before .before .before .before .before .before .before
+    .before .before in
+    let match = after .before .before .before .before .before .before .before .before .before .match in
+    let a = entry .args in
+    obeyed-load (a .op) (a .x) (a .y) (a .z) (after .load .ensures)
+    (omega (arith, match .keys2)) (omega arith) (omega arith) (omega arith)
 
 returns-3 : tie.Need-returns-3
-unfolding callNumbered
 returns-3 c =
+    let after = after-store c in
     let entry =
-    c .before .before .before .before .before .before .before .before .before .before .before .before .before .before .before .before .before .before
-    .before .before .before .before .before .before .before .before .before .before .before .before .before .before in
-    let match =
-    c .before .before .before .before .before .before .before .before .before .before .before .before .before .before .before .before .before .before
-    .before .before .before .before .before .match in
-    let store = c .before .before .before .before .before .before .before .before .before .before .before .before .before .before .store in
-    obeyed-call _ _ _ _ _ (rw (five (entry .pre .1) (match .rest .0 .1) (match .rest .1))) (store .ensures)
+    after .before .before .before .before .before .before .before .before .before .before .before .before .before .before .before .before
+    .before .before in
+    let match = after .before .before .before .before .before .before .before .before .before .match in
+    let a = entry .args in
+    let others = match .rest in
+    obeyed-store (a .op) (a .x) (a .y) (a .z) (after .store .ensures)
+    (omega (arith, entry .pre .1 .0, entry .pre .1 .1, others .0 .1, others .1)) (omega arith) (omega arith) (omega arith)
 
 pub moving-spec : {M : Type 1} → statement M
 moving-spec =

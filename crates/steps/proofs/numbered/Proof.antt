@@ -5,7 +5,7 @@ use mathlib.Core.List.{[]}
 use mathlib.Core.Logic.{⊎-elim}
 use mathlib.Core.Path.{refl}
 use Rattle.rules.specs.Asked.{callNumbered}
-use Rattle.laws.specs.Calls.Asked.{numbered-other, obeyed-call, obeyed-line}
+use Rattle.laws.specs.Calls.Asked.{numbered-other, obeyed-new, obeyed-clear, obeyed-collect, obeyed-start, obeyed-finish, obeyed-line}
 use Rattle.steps.proofs.numbered.Statement.{statement}
 use Rattle.steps.proofs.numbered.Tie as tie
 
@@ -19,6 +19,9 @@ after-clear c = c .before .before .before .before .before .before .before .befor
 abbrev after-collect : tie.After-slice-known27 → tie.After-collect
 after-collect c = c .before .before .before .before .before .before .before .before .before .before .before .before .before .before
 
+abbrev after-start : tie.After-slice-known30 → tie.After-start
+after-start c = c .before .before .before .before .before .before
+
 abbrev after-finish : tie.After-slice-known38 → tie.After-finish
 after-finish c = c .before .before .before .before .before .before .before .before .before .before .before .before .before .before .before .before
 
@@ -31,45 +34,59 @@ moving-requires c κs =
     ((entry .pre), (omega arith, omega arith))
 
 returns : tie.Need-returns
-unfolding callNumbered
 returns c =
-    let match = c .before .before .before .before .before .before .before .before .before .before .before .before .before .before .before .before .match in
-    let new = c .before .before .before .before .before .before .before .before .new in
-    obeyed-call _ _ _ _ _ (rw (match .keys1)) ((new .ensures) [])
+    let after = after-new c in
+    let entry =
+    after .before .before .before .before .before .before .before .before .before .before .before .before .before .before .before .before
+    .before in
+    let match = after .before .before .before .before .before .before .before .before .match in
+    let a = entry .args in
+    obeyed-new (a .op) (a .x) (a .y) (a .z) (after .new .ensures [])
+    (omega (arith, match .keys1)) (omega arith) (omega arith) (omega arith)
 
 returns-2 : tie.Need-returns-2
-unfolding callNumbered
 returns-2 c =
-    let match =
-    c .before .before .before .before .before .before .before .before .before .before .before .before .before .before .before .before .before .before
-    .before .before .before .before .before .before .before .match in
-    let clear = c .before .before .before .before .before .before .before .before .before .before .before .before .before .before .before .before .clear in
-    obeyed-call _ _ _ _ _ (rw (match .keys2)) (clear .ensures)
+    let after = after-clear c in
+    let entry =
+    after .before .before .before .before .before .before .before .before .before .before .before .before .before .before .before .before
+    .before .before in
+    let match = after .before .before .before .before .before .before .before .before .before .match in
+    let a = entry .args in
+    obeyed-clear (a .op) (a .x) (a .y) (a .z) (after .clear .ensures)
+    (omega (arith, match .keys2)) (omega arith)
 
 returns-3 : tie.Need-returns-3
-unfolding callNumbered
 returns-3 c =
-    let match =
-    c .before .before .before .before .before .before .before .before .before .before .before .before .before .before .before .before .before .before
-    .before .before .before .before .before .match in
-    let collect = c .before .before .before .before .before .before .before .before .before .before .before .before .before .before .collect in
-    obeyed-call _ _ _ _ _ (rw (match .keys3)) (collect .ensures)
+    let after = after-collect c in
+    let entry =
+    after .before .before .before .before .before .before .before .before .before .before .before .before .before .before .before .before
+    .before .before in
+    let match = after .before .before .before .before .before .before .before .before .before .match in
+    let a = entry .args in
+    obeyed-collect (a .op) (a .x) (a .y) (a .z) (after .collect .ensures)
+    (omega (arith, match .keys3))
 
 returns-4 : tie.Need-returns-4
-unfolding callNumbered
 returns-4 c =
-    let match = c .before .before .before .before .before .before .before .before .before .before .before .before .before .before .match in
-    let start = c .before .before .before .before .before .before .start in
-    obeyed-call _ _ _ _ _ (rw (match .keys4)) ((start .ensures) [])
+    let after = after-start c in
+    let entry =
+    after .before .before .before .before .before .before .before .before .before .before .before .before .before .before .before .before
+    .before in
+    let match = after .before .before .before .before .before .before .before .before .match in
+    let a = entry .args in
+    obeyed-start (a .op) (a .x) (a .y) (a .z) (after .start .ensures [])
+    (omega (arith, match .keys4)) (omega arith)
 
 returns-5 : tie.Need-returns-5
-unfolding callNumbered
 returns-5 c =
-    let match =
-    c .before .before .before .before .before .before .before .before .before .before .before .before .before .before .before .before .before .before
-    .before .before .before .before .before .before .before .match in
-    let finish = c .before .before .before .before .before .before .before .before .before .before .before .before .before .before .before .before .finish in
-    obeyed-call _ _ _ _ _ (rw (match .keys5)) (finish .ensures)
+    let after = after-finish c in
+    let entry =
+    after .before .before .before .before .before .before .before .before .before .before .before .before .before .before .before .before
+    .before .before in
+    let match = after .before .before .before .before .before .before .before .before .before .match in
+    let a = entry .args in
+    obeyed-finish (a .op) (a .x) (a .y) (a .z) (after .finish .ensures)
+    (omega (arith, match .keys5))
 
 returns-7 : tie.Need-returns-7
 unfolding callNumbered
@@ -119,11 +136,11 @@ numbered-spec =
     returns-3
     (λ c. refl)
     (λ c. refl)
-    (λ c. c .before .before .before .before .before .before .start .kept .1 .1 .0)
+    (λ c. after-start c .start .kept .1 .1 .0)
     (λ c. refl)
-    (λ c. c .before .before .before .before .before .before .start .kept .1 .1 .1 .1 .0)
+    (λ c. after-start c .start .kept .1 .1 .1 .1 .0)
     (λ c. refl)
-    (λ c. c .before .before .before .before .before .before .start .kept .1 .1 .1 .1 .1 .1 .0)
+    (λ c. after-start c .start .kept .1 .1 .1 .1 .1 .1 .0)
     returns-4
     (λ c. after-finish c .finish .kept .0)
     (λ c. after-finish c .finish .kept .1 .0)

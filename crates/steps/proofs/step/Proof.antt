@@ -1,8 +1,9 @@
 -- `steps::step` meets its contract.
 -- Assumes nothing.
+use native.Mathlib.Omega.{arith}
 use mathlib.Core.Path.{sym, _∙_}
 use borrow.Author.Tests.{not-true, not-false}
-use Rattle.laws.specs.Calls.Asked.{call-unused, call-used, obeyed-line}
+use Rattle.laws.specs.Calls.Asked.{call-unused, used-numbers, obeyed-used, obeyed-line}
 use Rattle.steps.proofs.step.Statement.{statement}
 use Rattle.steps.proofs.step.Tie as tie
 
@@ -19,14 +20,17 @@ returns c =
 
 returns-2 : tie.Need-returns-2
 returns-2 c =
-    let arguments-ok =
-    c .before .before .before .before .before .before .before .before .before .before .before .before .before .before .before .before .before .before
-    .before .before .before .before .before .before .before .before .arguments-ok in
-    let if1 =
-    c .before .before .before .before .before .before .before .before .before .before .before .before .before .before .before .before .before .before
-    .before .before .before .before .before .before .before .if1 in
-    let numbered = c .before .before .before .before .before .before .before .before .before .before .before .before .before .before .before .before .numbered in
-    rw (call-used _ _ _ _ (sym (arguments-ok .ensures) ∙ not-false _ (if1 .left))) (numbered .ensures)
+    let after = after-numbered c in
+    let tested = after .before .before .before .before .before .before .before .before .before .if1 in
+    let arguments-ok = after .before .before .before .before .before .before .before .before .before .before .arguments-ok in
+    let entry =
+    after .before .before .before .before .before .before .before .before .before .before .before .before .before .before .before .before
+    .before .before .before in
+    let a = entry .args in
+    let used =
+    used-numbers (a .op) (a .x) (a .y) (a .z) (sym (arguments-ok .ensures) ∙ not-false _ (tested .left))
+    (omega arith) (omega arith) (omega arith) (omega arith) in
+    obeyed-used (a .op) (a .x) (a .y) (a .z) used (after .numbered .ensures) (omega arith) (omega arith) (omega arith) (omega arith)
 
 pub step-spec : {M : Type 1} → statement M
 step-spec =
