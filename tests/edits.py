@@ -33,6 +33,7 @@ import sys
 import tempfile
 
 import contracts
+import functions
 import refusals
 
 TOP = pathlib.Path(__file__).resolve().parent.parent
@@ -106,10 +107,10 @@ def keep(name, said):
     log.write_text(said)
 
 
-def weighed(name, edit, functions, refused, whole, error):
-    """The outcome of an edit that was refused: of which kind, for each of `functions` or as a whole, and for each contract that it goes
-    against. Where the public function itself is proved, a private one that it rests on is refused in its place."""
-    kinds = {function: refused[function] for function in functions} or {"": whole}
+def weighed(name, edit, named, refused, whole, error):
+    """The outcome of an edit that was refused: of which kind, for each of the functions `named` or as a whole, and for each contract that it
+    goes against. Where the public function itself is proved, a private one that it rests on is refused in its place."""
+    kinds = {function: refused[function] for function in named} or {"": whole}
     words = ", ".join(f"{function} {kind}".strip() for function, kind in kinds.items())
     private = [kind for function, kind in refused.items() if function not in contracts.public()]
     against = {contract: refused.get(contract) or refusals.weakest(private) for contract in edit.against}
@@ -118,9 +119,9 @@ def weighed(name, edit, functions, refused, whole, error):
     return Outcome(name, keeps == (edit.shape is None), f"{words}{why}: {error[:140]}", list(kinds.values()), against)
 
 
-def weighed_whole(name, edit, functions, said):
+def weighed_whole(name, edit, named, said):
     """The same of an edit that was made alone, by all that was said."""
-    return weighed(name, edit, functions, refusals.refused(said), refusals.kind(said), refusals.first_error(said))
+    return weighed(name, edit, named, refusals.refused(said), refusals.kind(said), refusals.first_error(said))
 
 
 def control(name, edit, said):
@@ -148,25 +149,27 @@ def alone(crate, path, copy):
     said = said_of([name], edit.pairs, copy / "crates" / crate, crate, copy)
     if edit.harmless:
         return control(name, edit, said)
-    functions = [f"{crate}::{function}" for function in edit.refusers]
-    accepted = [function for function in functions if function not in refusals.refused(said)]
+    named = [f"{crate}::{function}" for function in edit.refusers]
+    accepted = [function for function in named if function not in refusals.refused(said)]
     if "logic=not-proved" not in said.splitlines() or accepted:
         return failure(name, f"NOT REFUSED {accepted}: {said[-2000:]}")
-    return weighed_whole(name, edit, functions, said)
+    return weighed_whole(name, edit, named, said)
 
 
 def own_functions(crate, path):
     """The functions whose bodies an edit changes, where each of them is to be refused; none where the edit is to be made alone."""
     edit, base = read(path), TOP / "crates" / crate
-    functions = {contracts.function_at(base / file, old) for file, old, _ in edit.pairs}
+    changed = {functions.function_at(base / file, old) for file, old, _ in edit.pairs}
     wanted = {f"{crate}::{function}" for function in edit.refusers}
-    return set() if edit.harmless or None in functions or functions != (wanted or functions) or not wanted and len(functions) > 1 else functions
+    if edit.harmless or None in changed or changed != wanted and (wanted or len(changed) > 1):
+        return set()
+    return changed
 
 
 def apart(crate, own, other):
     """Whether functions are neither the same nor call each other: of a function that is not proved the callers are not looked at."""
     return own.isdisjoint(other) and not any(
-        g in contracts.rests_on(crate, f) or f in contracts.rests_on(crate, g) for f in own for g in other)
+        g in functions.rests_on(crate, f) or f in functions.rests_on(crate, g) for f in own for g in other)
 
 
 def joins(crate, group, path, own):
@@ -207,7 +210,7 @@ def together(name, edit, own, said):
     refused = {function: kind for function, kind in refusals.refused(said).items() if function in own}
     if len(refused) < len(own):
         return failure(name, f"NOT REFUSED {sorted(own - refused.keys())}: {said[-2000:]}")
-    return weighed(name, edit, sorted(own) if edit.refusers else [], refused, min(refused.values()), refusals.first_of(min(own), said))
+    return weighed(name, edit, sorted(own) if edit.refusers else [], refused, refusals.weakest(refused.values()), refusals.first_of(min(own), said))
 
 
 def across(path, copy):

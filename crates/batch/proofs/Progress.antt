@@ -125,7 +125,7 @@ module _ (h₀ : Heap) (b : Batch) where
             ∙ s .answers;
         totals = sym (ap (λ (l : List CallRecord). raised (p .totals) (answersTo (p .heap) (asks l))) cut) ∙ s .totals;
         room = raised-room (p .totals) answer-now (p .left - 1) one-left few;
-        ready = obey-ready (p .heap) (askedBy record-now) (never-fresh _ _ _ _) (s .ready);
+        ready = obey-ready (p .heap) (askedBy record-now) (s .ready);
       }
 
     module _ (past : length (b .records) ≤ p .i) where

@@ -21,10 +21,10 @@ use Rattle.laws.specs.Calls.Asked.{asksFresh}
 use Rattle.laws.specs.Calls.Did.{room-step}
 use Rattle.laws.specs.Demand.Step.{sound-step, true-numbers}
 
-pub obey-ready : (h : Heap) (q : Asked) → asksFresh q ≡ false → Ready h → Ready (obey h q .heap)
+pub obey-ready : (h : Heap) (q : Asked) → Ready h → Ready (obey h q .heap)
 unfolding obey refuse
-obey-ready h (asks c) f r = sound-step h r c
-obey-ready h LINE f r = r
+obey-ready h (asks c) r = sound-step h r c
+obey-ready h LINE r = r
 
 -- the freed cells are cells of the heap, each once
 freed-few : (h after : Heap) → length (freedCells h after) ≤ cells h
