@@ -284,15 +284,20 @@ static inline vek_answer copy(heap *h, size_t to, size_t from)
     return write_ref(h, h->roots + to, h->roots[from]);
 }
 
+/* Why a reference names no object, or VEK_DONE. */
+static inline unsigned no_object(const heap *h, size_t r)
+{
+    return !r ? VEK_EMPTY : h->kind[r - 1] != VEK_OBJECT ? VEK_KIND : VEK_DONE;
+}
+
 static inline vek_answer load(heap *h, size_t to, size_t object, size_t slot)
 {
     if (to >= VEK_ROOTS || object >= VEK_ROOTS || slot >= VEK_SLOTS)
         return refuse(VEK_NUMBER);
     size_t r = h->roots[object];
-    if (!r)
-        return refuse(VEK_EMPTY);
-    if (h->kind[r - 1] != VEK_OBJECT)
-        return refuse(VEK_KIND);
+    unsigned why = no_object(h, r);
+    if (why)
+        return refuse(why);
     return write_ref(h, h->roots + to, h->slots[VEK_SLOTS * (r - 1) + slot]);
 }
 
@@ -301,10 +306,9 @@ static inline vek_answer store(heap *h, size_t object, size_t slot, size_t from)
     if (object >= VEK_ROOTS || slot >= VEK_SLOTS || from >= VEK_ROOTS)
         return refuse(VEK_NUMBER);
     size_t r = h->roots[object];
-    if (!r)
-        return refuse(VEK_EMPTY);
-    if (h->kind[r - 1] != VEK_OBJECT)
-        return refuse(VEK_KIND);
+    unsigned why = no_object(h, r);
+    if (why)
+        return refuse(why);
     return write_ref(h, h->slots + VEK_SLOTS * (r - 1) + slot, h->roots[from]);
 }
 
