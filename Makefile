@@ -4,10 +4,10 @@ VERSION := $(shell awk -F'"' '/ VEK_VERSION / { print $$2 }' include/vekszalir.h
 PREFIX ?= /usr/local
 DESTDIR ?=
 
-SOURCES := $(shell find crates crates.txt -type f)
-PROGRAM = target/bin/counter
-AUDITOR = target/bin/auditor
-ARCHIVE = target/staticlib/libheap_c.a
+SOURCES := $(shell find crates crates.txt -type f -not -path '*/out/*')
+PROGRAM = crates/counter/out/counter
+AUDITOR = crates/auditor/out/auditor
+ARCHIVE = crates/heap_c/out/libheap_c.a
 HOST = target/host
 SLOW_LINE = target/slow_line
 DUMP = target/dump
@@ -36,13 +36,11 @@ test: ## the whole gate
 	@.ci/run
 
 # Standard output and standard input are the program's own: what the proofs say goes to standard error.
-$(PROGRAM): PROOF = check counter
-$(AUDITOR): PROOF = check auditor
-$(ARCHIVE): PROOF = staticlib heap_c
-$(PROGRAM) $(AUDITOR) $(ARCHIVE): $(SOURCES)
-	@tools/prove $(PROOF) && touch -c $@
+$(PROGRAM) $(AUDITOR) $(ARCHIVE): crates/%: $(SOURCES)
+	@tools/prove $(firstword $(subst /, ,$*)) && touch -c $@
 
 $(HOST) $(SLOW_LINE) $(DUMP): target/%: examples/%.c include/vekszalir.h $(ARCHIVE)
+	@mkdir -p target
 	@$(CC) -std=c11 -O2 -Wall -Wextra -Iinclude -o $@ $< $(ARCHIVE)
 
 install: $(ARCHIVE) ## the archive, its header and a pkg-config file, below PREFIX (/usr/local); DESTDIR goes in front

@@ -11,9 +11,9 @@ import sys
 import tempfile
 
 TOP = pathlib.Path(__file__).resolve().parent.parent
-ARCHIVE = TOP / "target" / "staticlib" / "libheap_c.a"
-PROGRAM = TOP / "target" / "bin" / "counter"
-AUDITOR = TOP / "target" / "bin" / "auditor"
+ARCHIVE = TOP / "crates" / "heap_c" / "out" / "libheap_c.a"
+PROGRAM = TOP / "crates" / "counter" / "out" / "counter"
+AUDITOR = TOP / "crates" / "auditor" / "out" / "auditor"
 CELLS = 1024
 LINES = 100_000
 

@@ -7,25 +7,20 @@ import functions
 
 TOP = pathlib.Path(__file__).resolve().parent.parent
 SECTION = "### What would notice a statement gone weak"
-FUNCTION = re.compile(r'^(?:impl (\w+) \{|( *)pub (?:extern "C" )?fn (\w+))', re.M)
 
 
-def in_file(path, prefix):
+def in_file(path):
     """The public functions of one file that ensure something, by their full names."""
-    text, type_name = path.read_text(), ""
-    for match in FUNCTION.finditer(text):
-        if match[1]:
-            type_name = f"{match[1]}::"
-            continue
-        head = text[match.end():re.compile(rf"(?: |\n{match[2]}){{\n").search(text, match.end()).start()]
-        if "ensures" in head:
-            yield prefix + (type_name if match[2] else "") + match[3]
+    for name, text in functions.pieces(path):
+        if name and functions.PUBLIC.match(text) and re.search(r"\bensures\b", text[:functions.body_at(text)]):
+            yield name
 
 
 @functools.cache
 def public():
-    """Every public function with a contract, as `crate::module::function`."""
-    return [name for path in sorted(TOP.glob("crates/*/src/**/*.rt")) for name in in_file(path, functions.prefix_of(path))]
+    """Every public function with a contract, as `crate::module::function`. Of a program none is: nothing else can call it."""
+    libraries = [path.parent for path in sorted(TOP.glob("crates/*/src/lib.rt"))]
+    return [name for folder in libraries for path in sorted(folder.glob("**/*.rt")) for name in in_file(path)]
 
 
 def excused():
@@ -36,10 +31,8 @@ def excused():
     return {name: row[2].strip() for row in rows for name in re.findall(r"`(\w+(?:::\w+)+)`", row[1])}
 
 
-def judge(name, refuted, unknown, reason):
-    """Whether a contract has two refuted facts, or an excuse in their place (None where logs are missing to tell), and words, if any."""
-    if refuted < 2 <= refuted + unknown:
-        return None, f"{name}: not judged, for want of logs of `rt must-fail`"
+def judge(name, refuted, reason):
+    """Whether a contract has two refuted facts, or an excuse in their place, and words, if any."""
     if refuted < 2:
         return reason is not None, f"{name}: refuted facts against it: {refuted}; " + (reason or "AND NO WORD WHY")
     if reason is not None:

@@ -1,52 +1,62 @@
 #!/usr/bin/env python3
-"""Wrong edits that the proofs must refuse, beyond those that `rt must-fail` tries, and what each refusal is worth.
+"""Wrong edits that the proofs must refuse, and what each refusal is worth.
 
-`rt must-fail` proves a whole crate anew for each edit, and looks at no other crate. Here are
-- tests/edits/CRATE/: edits of one crate, in a copy of the repository that `rt check` has proved. They share an
-  incremental folder, so that after the first edit only what rests on the next is checked again; at the end the
-  crate as it stands must be proved there. Edits of functions that don't call each other are made together, and each
-  is weighed by what the prover says of its own function. One edit may also make several such functions wrong; the
-  line 'refuses:' names them, and each must be refused.
-- tests/edits/across/: edits of the rules that another crate's theorems refuse, which the line 'refused-by:' names,
-  tried in the same way. Everything below that crate must still be proved.
+`rt ci` says of the edits of crates/CRATE/must-fail/ that each is refused, and keeps no more of what the prover said than a line. Here these are
+tried once more, to weigh their refusals, and with them
+- tests/edits/CRATE/: edits of one crate, which it must refuse. One edit may make several functions wrong; the line 'refuses:' names them, and
+  each must be refused.
+- tests/edits/across/: edits of the rules that another crate's theorems refuse, which the line 'refused-by:' names. Everything below that crate
+  must still be proved.
+
+Each is tried in a copy of its own of what `rt check` has proved here, so that only what rests on it is checked again; and at the end the crate as
+it stands must be proved in such a copy. Edits of functions whose proofs stand apart are made together, and each is weighed by what the prover
+says of its own function; where that shows nothing, it is made alone.
 
 An edit has the lines 'file:', 'old:' and 'new:' of `rt must-fail`; paths start at the crate, or, across crates, at
 the top of the repository. The line 'against:' names the public contracts that an edit of the code goes against. An
-edit keeps the code's shape, so that there is the same to prove of it; the line 'shape:' says why, where it does not.
+edit keeps the code's shape, so that there is the same to prove of it; the line 'shape:' says why, where it does not. A condition that an edit
+changes is named otherwise in the goals behind it, and so the proof is given the new name (tests/goals.py).
 The line 'harmless:' is that of a control: a rewriting that changes no answer, which may be refused, but not for a fact.
 
-Each refusal is of a kind (tests/refusals.py). Those of crates/CRATE/must-fail/ are read from the logs that `rt ci`
-left, and not tried again; target/edits/ has the others'. At the end stand each public contract with fewer than two
+Each refusal is of a kind (tests/refusals.py); out/edits/ has what the prover said. At the end stand each public contract with fewer than two
 edits that refute a fact, of which docs/ARCHITECTURE.md has to say why, and the count of each kind. The last line
-printed is 'N passed, M failed'.
+printed is 'N passed, M failed'; edits that `rt ci` counts are not counted again.
 
 Usage: tests/edits.py [CRATE or across]..., all of them by default.
 """
 import collections
 import concurrent.futures
+import contextlib
 import itertools
 import os
 import pathlib
+import queue
 import shutil
 import subprocess
 import sys
 import tempfile
 
 import contracts
+import crates
 import functions
+import goals
 import refusals
 
 TOP = pathlib.Path(__file__).resolve().parent.parent
+CRATES = TOP / "crates"
 EDITS = TOP / "tests" / "edits"
-MUST_FAIL_LOGS = TOP / "target" / "must-fail"
-LOGS = TOP / "target" / "edits"
+LOGS = TOP / "out" / "edits"
 ACROSS = "across"
+PARTS = ("src", "specs", "proofs")
+# How often the proofs may be given new names: what is wrong in one line of a file can hide the next.
+RENAMINGS = 3
+PROCESSORS = len(os.sched_getaffinity(0))
 
 # An edit: the functions or the crate that must refuse it, the contracts it goes against, why the code's shape changes or why the edit is
 # harmless, where that is so, and the replacements (file, old, new).
 Edit = collections.namedtuple("Edit", "refusers against shape harmless pairs")
-# What became of an edit: whether it is as it must be (None where `rt must-fail` has said so already), words, the kinds of its refusals, and
-# the kind for each contract.
+# What became of an edit: whether it is as it must be (None where `rt ci` counts it already), words, the kinds of its refusals, and the kind for
+# each contract.
 Outcome = collections.namedtuple("Outcome", "name passed words kinds against")
 
 
@@ -73,30 +83,74 @@ def read(path):
 
 
 def edited(base, pairs):
-    """The files below `base` that an edit changes, with their texts before and after."""
+    """The files below `base` that an edit changes, by their paths from the top, with their texts after it."""
     texts = {}
     for file, old, new in pairs:
-        before, after = texts.get(base / file) or ((base / file).read_text(),) * 2
-        if after.count(old) != 1:
-            raise ValueError(f"an 'old:' text stands {after.count(old)} times in {file}")
-        texts[base / file] = before, after.replace(old, new)
+        path = str((base / file).relative_to(TOP))
+        text = texts.get(path) or (base / file).read_text()
+        if text.count(old) != 1:
+            raise ValueError(f"an 'old:' text stands {text.count(old)} times in {file}")
+        texts[path] = text.replace(old, new)
     return texts
 
 
-def copied(folder):
-    """A copy of the crates as a repository of its own, with what `rt check` has proved."""
-    copy = pathlib.Path(folder) / "copy"
-    copy.mkdir()
-    shutil.copytree(TOP / "crates", copy / "crates")
-    shutil.copy(TOP / "crates.txt", copy)
-    for part in ("rlib", "stamp"):
-        shutil.copytree(TOP / "target" / part, copy / "target" / part)
-    subprocess.run(["git", "init", "-q", str(copy)], check=True)
-    return copy
+def linked(source, target):
+    """A second name for what a check has left, which a check replaces and never writes into; a copy of any other file."""
+    with contextlib.suppress(OSError):
+        if "/out/rlib/" in source or source.endswith(".oantt"):
+            return os.link(source, target)
+    return shutil.copy2(source, target)
 
 
-def dev(copy, crate):
-    run = subprocess.run(["rt", "dev", crate], cwd=copy, capture_output=True, text=True)
+def fill(copy, crate, texts):
+    """Makes the empty folder a repository of a crate and those below it, with what `rt check` has proved of them, and then gives the files their new
+    texts. Of a crate on which no new text bears the built library is enough."""
+    needed = crates.needed(crate)
+    changed = {path.split("/")[1] for path in texts}
+    for name in needed:
+        kept = ("out",) if name == crate or crates.needed(name) & changed else ("out/rlib",)
+        for part in (*PARTS, *kept):
+            if (CRATES / name / part).is_dir():
+                shutil.copytree(CRATES / name / part, copy / "crates" / name / part, copy_function=linked)
+    (copy / "crates.txt").write_text("".join(f"{line}\n" for name, line in crates.lines().items() if name in needed))
+    write(copy, texts)
+
+
+def write(copy, texts):
+    for path, text in texts.items():
+        (copy / path).write_text(text)
+
+
+class Copies:
+    """Folders for as many copies as there are processors."""
+
+    def __init__(self):
+        self.room = tempfile.TemporaryDirectory(prefix="edits-")
+        self.free = queue.SimpleQueue()
+
+    def __enter__(self):
+        for number in range(PROCESSORS):
+            self.free.put(pathlib.Path(self.room.name) / str(number))
+        return self
+
+    def __exit__(self, *_):
+        self.room.cleanup()
+
+    @contextlib.contextmanager
+    def copy(self, crate, texts):
+        """A copy of a crate and those below it in which files have other texts."""
+        folder = self.free.get()
+        try:
+            fill(folder, crate, texts)
+            yield folder
+        finally:
+            shutil.rmtree(folder, ignore_errors=True)
+            self.free.put(folder)
+
+
+def checked(copy, crate):
+    """What `rt check` says of a crate in a copy."""
+    run = subprocess.run(["rt", "check", "--jobs", "1"], cwd=copy / "crates" / crate, stdin=subprocess.DEVNULL, capture_output=True, text=True)
     return run.stdout + run.stderr
 
 
@@ -105,6 +159,38 @@ def keep(name, said):
     log = LOGS / f"{name}.log"
     log.parent.mkdir(parents=True, exist_ok=True)
     log.write_text(said)
+
+
+def proof_files(function):
+    """The files of a function's proof, by their paths from the top."""
+    crate = function.split("::")[0]
+    folders = [CRATES / crate / folder for folder in functions.proof_folders(function)]
+    return [str(file.relative_to(TOP)) for folder in folders for file in sorted(folder.glob("*.antt"))]
+
+
+def renamed(said, texts):
+    """Those files of the refused functions' proofs in which a goal or a fact is named otherwise now, with the new names."""
+    found = {}
+    for function in refusals.refused(said):
+        proof = {file: texts.get(file) or (TOP / file).read_text() for file in proof_files(function)}
+        exchanges = goals.exchanged(refusals.told_of(function, said), "\n".join(proof.values()))
+        found |= {file: after for file, text in proof.items() if (after := goals.renamed(text, exchanges)) != text}
+    return found
+
+
+def said_of(names, texts, crate, copies):
+    """What the prover says of a crate where files have other texts."""
+    with copies.copy(crate, texts) as copy:
+        said = checked(copy, crate)
+        for _ in range(RENAMINGS):
+            if not (more := renamed(said, texts)):
+                break
+            write(copy, more)
+            texts = {**texts, **more}
+            said = checked(copy, crate)
+    for name in names:
+        keep(name, said)
+    return said
 
 
 def weighed(name, edit, named, refused, whole, error):
@@ -126,67 +212,75 @@ def weighed_whole(name, edit, named, said):
 
 def control(name, edit, said):
     """The outcome of a harmless rewriting: if it is refused, then not for a fact."""
-    kind = refusals.kind(said) if "logic=not-proved" in said.splitlines() else "accepted"
+    if not refusals.is_proved(said) and not refusals.is_refusal(said):
+        return failure(name, f"it cannot be read: {said[-2000:]}")
+    kind = refusals.kind(said) if refusals.is_refusal(said) else "accepted"
     return Outcome(name, kind not in refusals.REFUTED, f"harmless ({edit.harmless}), and {kind}", [], {})
 
 
-def said_of(names, pairs, base, crate, copy):
-    """What the prover says of a crate while edits of the files below `base` are made."""
-    texts = edited(base, pairs)
-    for target, (_, after) in texts.items():
-        target.write_text(after)
-    said = dev(copy, crate)
-    for name in names:
-        keep(name, said)
-    for target, (before, _) in texts.items():
-        target.write_text(before)
-    return said
-
-
-def alone(crate, path, copy):
+def alone(crate, path, copies):
     """What became of one edit of a crate."""
-    name, edit = f"{crate}/{path.stem}", read(path)
-    said = said_of([name], edit.pairs, copy / "crates" / crate, crate, copy)
+    name, edit = name_of(path), read(path)
+    said = said_of([name], edited(CRATES / crate, edit.pairs), crate, copies)
     if edit.harmless:
         return control(name, edit, said)
     named = [f"{crate}::{function}" for function in edit.refusers]
     accepted = [function for function in named if function not in refusals.refused(said)]
-    if "logic=not-proved" not in said.splitlines() or accepted:
-        return failure(name, f"NOT REFUSED {accepted}: {said[-2000:]}")
+    if not refusals.is_refusal(said) or accepted:
+        return failure(name, f"NOT REFUSED {accepted}: {refusals.unread(said) or said[-2000:]}")
     return weighed_whole(name, edit, named, said)
 
 
 def own_functions(crate, path):
-    """The functions whose bodies an edit changes, where each of them is to be refused; none where the edit is to be made alone."""
-    edit, base = read(path), TOP / "crates" / crate
+    """The functions whose bodies an edit changes, where each of them is to be refused or none; none where the edit is to be made alone."""
+    edit, base = read(path), CRATES / crate
     changed = {functions.function_at(base / file, old) for file, old, _ in edit.pairs}
     wanted = {f"{crate}::{function}" for function in edit.refusers}
-    if edit.harmless or None in changed or changed != wanted and (wanted or len(changed) > 1):
+    if None in changed or not edit.harmless and changed != wanted and (wanted or len(changed) > 1):
         return set()
     return changed
 
 
+def seen_above(crate, below, above):
+    """Whether it shows that a function is wrong where one is that it rests on: only their proofs' files are looked at then, and of both."""
+    return below not in functions.rests_on(crate, above) or bool(proof_files(below) and proof_files(above))
+
+
 def apart(crate, own, other):
-    """Whether functions are neither the same nor call each other: of a function that is not proved the callers are not looked at."""
-    return own.isdisjoint(other) and not any(
-        g in functions.rests_on(crate, f) or f in functions.rests_on(crate, g) for f in own for g in other)
+    """Whether functions have proofs of their own, of which each is looked at if all of them are wrong."""
+    proofs = [{functions.proof_folders(function)[1] for function in some} for some in (own, other)]
+    return proofs[0].isdisjoint(proofs[1]) and all(seen_above(crate, f, g) and seen_above(crate, g, f) for f in own for g in other)
 
 
 def joins(crate, group, path, own):
-    """Whether an edit may be made together with those of a group: their functions stand apart, and each 'old:' text still stands once."""
+    """Whether an edit may be made together with those of a group: all are harmless or none, their functions stand apart, and each 'old:' text still
+    stands once."""
     if not own or not all(other and apart(crate, own, other) for other in group.values()):
         return False
+    if any(bool(read(member).harmless) != bool(read(path).harmless) for member in group):
+        return False
     try:
-        edited(TOP / "crates" / crate, [pair for member in (*group, path) for pair in read(member).pairs])
+        edited(CRATES / crate, [pair for member in (*group, path) for pair in read(member).pairs])
     except ValueError:
         return False
     return True
 
 
+def edits_of(crate):
+    """The edits of a crate, those that `rt ci` tries among them."""
+    return [path for folder in (CRATES / crate / "must-fail", EDITS / crate) for path in sorted(folder.glob("*.edit"))]
+
+
+def name_of(path):
+    """The name of an edit: of its crate, and its own."""
+    folder = path.parent.parent if path.parent.name == "must-fail" else path.parent
+    return f"{folder.name}/{path.stem}"
+
+
 def groups(crate):
     """The edits of a crate in groups, each edit with its functions: edits of functions that stand apart, or one edit that is made alone."""
     together = []
-    for path in sorted((EDITS / crate).glob("*.edit")):
+    for path in edits_of(crate):
         own = own_functions(crate, path)
         room = next((group for group in together if joins(crate, group, path, own)), None)
         if room is None:
@@ -196,64 +290,71 @@ def groups(crate):
     return together
 
 
-def made_together(crate, group, copy):
-    """What became of edits of functions that stand apart, made together."""
+def made_together(crate, group, copies):
+    """What became of edits of functions that stand apart, made together. One that is not seen in company is made alone."""
     if len(group) == 1:
-        return [alone(crate, path, copy) for path in group]
-    edits = [(f"{crate}/{path.stem}", read(path), own) for path, own in group.items()]
-    said = said_of([name for name, _, _ in edits], [pair for _, edit, _ in edits for pair in edit.pairs], copy / "crates" / crate, crate, copy)
-    return [together(name, edit, own, said) for name, edit, own in edits]
+        return [alone(crate, path, copies) for path in group]
+    texts = edited(CRATES / crate, [pair for path in group for pair in read(path).pairs])
+    said = said_of(map(name_of, group), texts, crate, copies)
+    return [together(path, own, said) or alone(crate, path, copies) for path, own in group.items()]
 
 
-def together(name, edit, own, said):
-    """What became of one of them, by what was said of its own functions."""
+def together(path, own, said):
+    """What became of one of them, by what was said of its own functions; or None where that shows nothing."""
+    name, edit = name_of(path), read(path)
+    if edit.harmless:
+        return control(name, edit, said) if refusals.is_proved(said) else None
     refused = {function: kind for function, kind in refusals.refused(said).items() if function in own}
-    if len(refused) < len(own):
-        return failure(name, f"NOT REFUSED {sorted(own - refused.keys())}: {said[-2000:]}")
+    if not refusals.is_refusal(said) or len(refused) < len(own):
+        return None
     return weighed(name, edit, sorted(own) if edit.refusers else [], refused, refusals.weakest(refused.values()), refusals.first_of(min(own), said))
 
 
-def across(path, copy):
+def across(path, copies):
     """What became of one edit across crates; those below the one that refuses it are proved."""
-    name, edit = f"{ACROSS}/{path.stem}", read(path)
+    name, edit = name_of(path), read(path)
     (refuser,) = edit.refusers
-    said = said_of([name], edit.pairs, copy, refuser, copy)
-    if "logic=not-proved" not in said.splitlines() or "NOT PROVED" in said:
-        return [failure(name, f"NOT REFUSED by {refuser}: {said[-2000:]}")]
+    said = said_of([name], edited(TOP, edit.pairs), refuser, copies)
+    if not refusals.is_refusal(said):
+        return [failure(name, f"NOT REFUSED by {refuser}: {refusals.unread(said) or said[-2000:]}")]
     return [weighed_whole(name, edit, [], said)]
 
 
-def in_one_copy(attempts, attempt, crates):
-    """What became of each edit, tried one after another in a copy in which the crates are proved when none is made."""
-    with tempfile.TemporaryDirectory() as folder:
-        copy = copied(folder)
-        outcomes = [outcome for one in attempts for outcome in attempt(one, copy)]
-        # A copy that could not be proved as it stands would refuse every edit, and show nothing.
-        unedited = [dev(copy, crate) for crate in crates]
-        if any("logic=proved" not in said or "logic=not-proved" in said for said in unedited):
-            return [failure(outcome.name, "the copy without the edit is not proved") for outcome in outcomes]
-        return outcomes
+def unedited(crate, copies):
+    """A copy that could not be proved as it stands would refuse every edit, and show nothing."""
+    with copies.copy(crate, {}) as copy:
+        said = checked(copy, crate)
+    return [] if refusals.is_proved(said) else [failure(f"{crate}, without an edit", f"NOT PROVED: {said[-2000:]}")]
 
 
-def crate_edits(crate):
-    return in_one_copy(groups(crate), lambda group, copy: made_together(crate, group, copy), [crate])
+def attempts(wanted):
+    """What is tried, the longest first: calls that take the copies."""
+    for path in sorted((EDITS / ACROSS).glob("*.edit")) if ACROSS in wanted else ():
+        yield lambda copies, path=path: across(path, copies)
+    for crate in sorted(set(wanted) - {ACROSS}, key=lambda crate: len(edits_of(crate)), reverse=True):
+        for group in groups(crate):
+            yield lambda copies, crate=crate, group=group: made_together(crate, group, copies)
+    for crate in refusers(wanted):
+        yield lambda copies, crate=crate: unedited(crate, copies)
 
 
-def across_edits(_):
-    paths = sorted((EDITS / ACROSS).glob("*.edit"))
-    return in_one_copy(paths, across, sorted({name for path in paths for name in read(path).refusers}))
+def refusers(wanted):
+    """The crates that have an edit to refuse."""
+    named = [name for path in (EDITS / ACROSS).glob("*.edit") for name in read(path).refusers] if ACROSS in wanted else []
+    return sorted({*named, *(crate for crate in wanted if crate != ACROSS and edits_of(crate))})
 
 
-def logged(crate, path):
-    """What `rt must-fail` made of an edit of a crate, from the log that it left; it has counted the edit itself."""
-    name, edit, base, folder = f"{crate}/{path.stem}", read(path), TOP / "crates" / crate, MUST_FAIL_LOGS / crate / path.stem
-    texts = {folder / target.relative_to(base): after for target, (_, after) in edited(base, edit.pairs).items()}
-    log = folder / ".log"
-    said = log.read_text() if log.exists() else ""
-    if "logic=not-proved" not in said.splitlines() or any(not left.exists() or left.read_text() != text for left, text in texts.items()):
-        return Outcome(name, None, "no log of `rt must-fail` for it as it stands", [], dict.fromkeys(edit.against, None))
-    outcome = weighed_whole(name, edit, [], said)
-    return outcome._replace(passed=None if outcome.passed else False)
+def counted(outcome):
+    """The outcome of an edit that `rt ci` counts, which is not counted twice where it is as it must be."""
+    crate, _, name = outcome.name.partition("/")
+    return outcome._replace(passed=None if outcome.passed and (CRATES / crate / "must-fail" / f"{name}.edit").exists() else outcome.passed)
+
+
+def tried(wanted):
+    """Tries the edits; yields what became of each."""
+    with Copies() as copies, concurrent.futures.ThreadPoolExecutor(max_workers=PROCESSORS) as pool:
+        for done in concurrent.futures.as_completed([pool.submit(attempt, copies) for attempt in attempts(wanted)]):
+            yield from map(counted, done.result())
 
 
 def faults(crate, path):
@@ -268,41 +369,29 @@ def faults(crate, path):
         yield False, f"{crate}/{path.stem}: it does not say which public contract it goes against"
 
 
-def replacements(crate):
-    """How much there is to refuse; the crates with most begin."""
-    return sum(len(read(path).pairs) for path in (EDITS / crate).glob("*.edit"))
-
-
-def tried(wanted):
-    """Tries the edits; yields what became of each."""
-    folders = sorted((w for w in wanted if (EDITS / w).is_dir()), key=replacements, reverse=True)
-    jobs = [(across_edits if folder == ACROSS else crate_edits, folder) for folder in folders]
-    with concurrent.futures.ThreadPoolExecutor(max_workers=os.cpu_count()) as pool:
-        for done in concurrent.futures.as_completed([pool.submit(*job) for job in jobs]):
-            yield from done.result()
-
-
 def judged(wanted, outcomes):
     """Each public contract of the crates: whether two edits refute a fact, or a word says why not."""
     reasons = contracts.excused()
     for name in contracts.public():
         if name.split("::")[0] in wanted:
             kinds = [outcome.against[name] for outcome in outcomes if name in outcome.against]
-            yield contracts.judge(name, sum(kind in refusals.REFUTED for kind in kinds), kinds.count(None), reasons.get(name))
+            yield contracts.judge(name, sum(kind in refusals.REFUTED for kind in kinds), reasons.get(name))
     for name in reasons:
         if name not in contracts.public():
             yield False, f"{name} is excused, and there is no such public contract"
 
 
 def main():
-    wanted = sys.argv[1:] or sorted({p.name for p in (TOP / "crates").iterdir()} | {ACROSS})
-    subprocess.run(["rt", "check"], cwd=TOP, check=True, stdout=subprocess.DEVNULL)
-    must_fail = [(crate, path) for crate in wanted for path in sorted((TOP / "crates" / crate / "must-fail").glob("*.edit"))]
-    written = must_fail + [(crate, path) for crate in wanted for path in sorted((EDITS / crate).glob("*.edit"))]
+    wanted = sys.argv[1:] or sorted({*crates.listed(), ACROSS})
+    proved = subprocess.run(["rt", "all", "check"], cwd=TOP, stdin=subprocess.DEVNULL, capture_output=True, text=True)
+    if proved.returncode:
+        print(proved.stdout[-4000:] + proved.stderr, "0 passed, 1 failed", sep="\n")
+        return 1
     outcomes = []
-    for outcome in itertools.chain((logged(*edit) for edit in must_fail), tried(wanted)):
+    for outcome in tried(wanted):
         outcomes.append(outcome)
         print(f"{outcome.name}: {outcome.words}", flush=True)
+    written = [(crate, path) for crate in wanted if crate != ACROSS for path in edits_of(crate)]
     verdicts = [*itertools.chain.from_iterable(faults(*edit) for edit in written), *judged(wanted, outcomes)]
     for words in filter(None, (words for _, words in verdicts)):
         print(words)

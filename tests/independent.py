@@ -14,9 +14,9 @@ import tempfile
 
 TOP = pathlib.Path(__file__).resolve().parent.parent
 HERE = TOP / "tests" / "independent"
-ARCHIVE = TOP / "target" / "staticlib" / "libheap_c.a"
-PROGRAM = TOP / "target" / "bin" / "counter"
-AUDITOR = TOP / "target" / "bin" / "auditor"
+ARCHIVE = TOP / "crates" / "heap_c" / "out" / "libheap_c.a"
+PROGRAM = TOP / "crates" / "counter" / "out" / "counter"
+AUDITOR = TOP / "crates" / "auditor" / "out" / "auditor"
 sys.path.insert(0, str(HERE))
 sys.dont_write_bytecode = True  # nothing is left in the source folders
 import auditors  # noqa: E402
@@ -30,6 +30,7 @@ SEEDS = (1, 2, 3, 4)
 INPUT_SEED = 1
 CONVERSATIONS = 5  # every fifth input is sent by a writer that waits for answers
 SECONDS = 60  # for one comparison; an edit that makes it hang is not caught
+PATIENCE = 600  # for one with sanitizers, which takes a minute of a processor's time, however busy the machine is
 GCC = ["gcc", "-std=c11", "-O1", "-I", HERE]
 STRICT = ["-Wall", "-Wextra", "-Werror", "-g", "-fsanitize=address,undefined"]
 LENIENT = ["-w"]  # a wrong edit may leave something unused
@@ -66,10 +67,10 @@ def build_objects(folder, sources):
     return objects
 
 
-def run_driver(compare, seed, *words):
+def run_driver(compare, seed, *words, seconds=SECONDS):
     """The exit status, or None for a comparison that hangs, and what it prints."""
     try:
-        run = subprocess.run([compare, str(seed), *words], capture_output=True, text=True, timeout=SECONDS)
+        run = subprocess.run([compare, str(seed), *words], capture_output=True, text=True, timeout=seconds)
         return run.returncode, run.stdout + run.stderr
     except subprocess.TimeoutExpired:
         return None, "the comparison hangs\n"
@@ -78,7 +79,7 @@ def run_driver(compare, seed, *words):
 def compare_heaps(folder):
     compare = build(folder / "compare", sources(driver_parts()), STRICT, [ARCHIVE])
     for seed in SEEDS:
-        status, report = run_driver(compare, seed)
+        status, report = run_driver(compare, seed, seconds=PATIENCE)
         print(report, end="")
         yield f"heaps, seed {seed}", status == 0
 

@@ -9,13 +9,15 @@ import re
 import subprocess
 import sys
 
+import crates
+
 TOP = pathlib.Path(__file__).resolve().parent.parent
 
 # What stands outside the crates, as patterns over paths from the top.
 PLACES = [
     r"README\.md",
     r"Makefile",
-    r"tools/prove",
+    r"tools/(prove|spelling\.py)",
     r"crates\.txt",
     r"\.git(ignore|attributes)",
     r"\.ci/run",
@@ -34,24 +36,15 @@ PLACES = [
 PARTS = r"(src/.+\.rt|specs/.+\.antt|proofs/.+\.antt|must-fail/[a-z0-9_]+\.edit|stdin|stdout|args|data/.+)"
 
 
-def listed():
-    names = set()
-    for line in (TOP / "crates.txt").read_text().splitlines():
-        line = line.split("#")[0].strip()
-        if line:
-            names.add(line.split(":")[0].strip())
-    return names
-
-
 def stray(files):
-    crates = "|".join(sorted(map(re.escape, listed())))
-    allowed = re.compile("|".join([rf"crates/({crates})/{PARTS}", *PLACES]))
+    names = "|".join(sorted(map(re.escape, crates.listed())))
+    allowed = re.compile("|".join([rf"crates/({names})/{PARTS}", *PLACES]))
     return [f"stray file: {f}" for f in files if not allowed.fullmatch(f)]
 
 
 def unlisted(_):
     folders = {p.name for p in (TOP / "crates").iterdir() if p.is_dir()}
-    return [f"crates/{name} is not listed in crates.txt" for name in sorted(folders - listed())]
+    return [f"crates/{name} is not listed in crates.txt" for name in sorted(folders - set(crates.listed()))]
 
 
 def wordless(files):

@@ -11,7 +11,7 @@
 #include <ucontext.h>
 
 enum { N = 1024, STACK = 65536, PAINT = 0xA5 };
-enum { CALL = 2560, LINE = 3584, BATCH = 3584, AUDIT = 2560 }; /* the most bytes of each kind */
+enum { CALL = 2560, LINE = 3584, BATCH = 3584, AUDIT = 2576 }; /* the most bytes of each kind */
 
 static VEK_STORAGE(N) heap;
 

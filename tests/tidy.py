@@ -20,10 +20,11 @@ WIDTH = 200
 
 TEXT = r'"(?:\\.|[^"\\])*"'
 WORD = r'[^\s(){}.;,@"«»]+'
-USE = re.compile(r"^(?:unfoldable )?(pub )?(?:ghost )?use ([^\s{};]+?)(?:\.\{([^}]*)\}| as (\S+?))?;?$", re.M)
+USE = re.compile(r"^(?:unfoldable )?(pub )?(?:ghost )?use ([^\s{};]+?)(?:(\.|::)\{([^}]*)\}| as (\S+?))?;?$", re.M)
+CLAUSE = re.compile(r"\b(?:requires|ensures)\*?(?: \w+)? \{")
 # The line that begins a definition: marks, a name or several, a colon. A clause has none before its `=`.
 MARKS = r"( *)(?:(?:unfoldable|abbrev|pub|axiom) )*"
-NAMES = rf"(?!let )({WORD}(?: (?!= ){WORD})*?)(?: \{{[^}}=:]*\}})?"
+NAMES = rf"(?!let |\| )({WORD}(?: (?!= ){WORD})*?)(?: \{{[^}}=:]*\}})?"
 HEAD = re.compile(rf"^{MARKS}(?:(record|data) ({WORD})|{NAMES} :(?=\s|$))", re.M)
 OTHER = re.compile(r" *(?:module|open|infix[lr]?|mutual)\b")
 
@@ -35,23 +36,43 @@ def line_of(text, at):
     return text.count("\n", 0, at) + 1
 
 
-def lines_only(match):
-    return "\n" * match[0].count("\n")
+def lines_only(text):
+    return "\n" * text.count("\n")
 
 
 def parts(name):
-    """The words that a name is written with: `_when_` as `when`, any other as it stands."""
-    return [part for part in name.split("_") if part] or [name]
+    """The words that a name is written with: `◌when◌` as `when`, any other as it stands."""
+    return [part for part in name.split("◌") if part] or [name]
+
+
+def clauses(code):
+    """Where the contracts of a source stand: from each clause's opening brace to the one that closes it."""
+    for match in CLAUSE.finditer(code):
+        end, depth = match.end(), 1
+        while depth:
+            depth += {"{": 1, "}": -1}.get(code[end], 0)
+            end += 1
+        yield match.end(), end - 1
+
+
+def split(code):
+    """A source as its contracts alone and as its code alone, each on its lines."""
+    contracts, rest, last = [], [], 0
+    for begin, end in clauses(code):
+        contracts += [lines_only(code[last:begin]), code[begin:end]]
+        rest += [code[last:begin], lines_only(code[begin:end])]
+        last = end
+    return "".join([*contracts, lines_only(code[last:])]), "".join([*rest, code[last:]])
 
 
 def imported(match, line):
-    public, path, leaves, name = match.groups()
+    public, path, mark, leaves, name = match.groups()
     if leaves is None:
         yield Import(line, public, path, None, name or re.split(r"::|\.", path)[-1])
         return
     for leaf in filter(None, map(str.strip, leaves.split(","))):
         leaf, _, name = leaf.partition(" as ")
-        yield Import(line, public, path, leaf, name or leaf)
+        yield Import(line, public, f"{path}::{leaf}" if mark == "::" else path, leaf, name or leaf)
 
 
 def read(antt):
@@ -108,9 +129,8 @@ class File:
         self.comments = [(line_of(self.text, m.start()), m[0]) for m in re.finditer(comment, self.text) if m[0][0] != '"']
         code = re.sub(comment, lambda m: '""' if m[0][0] == '"' else "", self.text)
         self.imports = [i for m in USE.finditer(code) for i in imported(m, line_of(code, m.start()))]
-        code = USE.sub(lines_only, code)
-        self.antt = code if self.is_antt else "".join(re.findall(r"⌜.*?⌝|\n", code, re.S))
-        self.rust = "" if self.is_antt else re.sub(r"⌜.*?⌝", lines_only, code, flags=re.S)
+        code = USE.sub(lambda m: lines_only(m[0]), code)
+        self.antt, self.rust = (code, "") if self.is_antt else split(code)
         self.definitions = list(defined(code.split("\n"))) if self.is_antt else []
         self.named, self.picked = read(HEAD.sub(r"\1:", self.antt) if self.is_antt else self.antt)
 
@@ -127,7 +147,7 @@ class File:
 
 def module_of(path):
     """The crate and the module that a path of antt's means, if it is one of the repository."""
-    match = re.fullmatch(r"Rattle·(\w+)(?:·\w+)?\.(.+)", path)
+    match = re.fullmatch(r"Rattle\.(\w+)\.(.+)", path)
     return match and (match[1], match[2])
 
 
@@ -156,25 +176,27 @@ def cited():
 
 
 def idle_names(files):
-    """A theorem may stand alone where a document cites it; the prover itself takes a function's proof, NAME-spec."""
+    """A theorem may stand alone where a document cites it; the prover itself takes what stands under a goal's name."""
     known, picked, final = set(reached(files)), set().union(*(f.picked for f in files)), set(cited())
     for file in files:
-        specs = file.path.endswith("/Proof.antt")
+        goals = set(re.findall(r"^(?:abbrev )?pub (\S+) : goal\.", file.antt, re.M))
         for item in file.definitions:
             own = item.owner or item
             module = (file.crate, f"{file.module[1]}.{own.name}") if item.owner else file.module
+            # A tactic reads the fields of an invariant, and names none; a field of specs/ is promised, whether a proof names it or not.
+            read = file.path.endswith("/Invariants.antt") or item.kind == "field" and "/specs/" in file.path
             here = item.kind != "field" and any(not own.first <= line <= own.last for line in file.lines(item.name))
             picks = item.owner and item.name in picked
             theorem = any(name == item.name and file.path.endswith(f"/{path}") for name, path in final)
-            alone = not item.kind and (theorem or specs and item.name.endswith("-spec"))
-            if not (here or picks or alone or (module, item.name) in known):
+            alone = not item.kind and (theorem or item.name in goals)
+            if not (read or here or picks or alone or (module, item.name) in known):
                 yield file.path, item.first, f"nothing uses `{item.name}`"
 
 
 def idle_imports(files):
     """What a `pub use` passes on, another crate names behind this crate's name."""
     for file in files:
-        others = [f.text for f in files if f.crate != file.crate]
+        others = [path for f in files if f.crate != file.crate for path in [f.text, *(item.path for item in f.imports)]]
         for item in file.imports:
             passed = item.public and any(re.search(rf"\b{file.crate}::{item.name}\b", text) for text in others)
             if not passed and not file.uses(item):
@@ -184,10 +206,10 @@ def idle_imports(files):
 def idle_dependencies(files):
     for n, line in enumerate((TOP / "crates.txt").read_text().splitlines(), 1):
         crate, _, needs = line.split("#")[0].partition(":")
-        texts = [path for f in files if f.crate == crate.strip() for path in [f.antt, f.rust, *(i.path for i in f.imports)]]
+        texts = [path for f in files if f.crate in crate.split()[:1] for path in [f.antt, f.rust, *(i.path for i in f.imports)]]
         for need in needs.split():
-            if not any(re.search(rf"\bRattle·{need}[.·]|(?<!:)\b{need}::", text) for text in texts):
-                yield "crates.txt", n, f"no file of {crate.strip()} names {need}"
+            if not any(re.search(rf"\bRattle\.{need}\.|(?<!:)\b{need}::", text) for text in texts):
+                yield "crates.txt", n, f"no file of {crate.split()[0]} names {need}"
 
 
 def exists(path):
@@ -218,9 +240,11 @@ def lost_names(files):
 
 
 def long_lines(files):
-    """The formatter keeps a line break before any word; so only a line with a word too long for it cannot be broken."""
+    """The formatter keeps a line break before any word, but puts an import on one line; so only a line with a word too long for it cannot be broken."""
     for file in files:
         for n, line in enumerate(file.text.splitlines() if file.is_antt else [], 1):
+            if USE.match(line):
+                continue
             indent, words = len(line) - len(line.lstrip()), re.findall(rf"{TEXT}|\S+", line)
             if len(line) > WIDTH and indent + max(map(len, words)) <= WIDTH:
                 yield file.path, n, f"{len(line)} characters"

@@ -1,13 +1,12 @@
 """Inputs that can't be read and outputs that can't be written, and what the program has to make of them.
 
-A read or a write that fails ends the run with status 0, a message on standard error that has the system's words for
-what failed, and no wrong line; where the reader of a pipe has gone, SIGPIPE ends it (docs/DECISIONS.md, 29).
+A read or a write that fails ends the run with status 1, a message on standard error that has the system's words for
+what failed, and no wrong line; so does a write to a pipe whose reader has gone (docs/DECISIONS.md, 29).
 """
 import contextlib
 import errno
 import os
 import resource
-import signal
 import socket
 import subprocess
 import tempfile
@@ -18,10 +17,21 @@ from known import HEADER
 LINES, ANSWERS = b"1,0,1,0\r\n2,0,0,0\r\n", b"1,0,0,0,0\r\n2,0,1,0,0\r\n"
 LONG, LONG_OUTPUT = 20_000 * LINES, HEADER + 20_000 * ANSWERS  # more than a pipe holds
 
+# how the language names what a system call fails with
+KINDS = {
+    errno.EBADF: "Uncategorized",
+    errno.ECONNRESET: "ConnectionReset",
+    errno.EFBIG: "FileTooLarge",
+    errno.EISDIR: "IsADirectory",
+    errno.ENOSPC: "StorageFull",
+    errno.EPIPE: "BrokenPipe",
+}
 
-def told(what, number, output):
+
+def told(number, output):
     """The outcome of a run that a failed read or write ended, when this much had been written."""
-    return Outcome(0, output, f"{what}: {os.strerror(number)}\n".encode())
+    said = f'Error: Os {{ code: {number}, kind: {KINDS[number]}, message: "{os.strerror(number)}" }}\n'
+    return Outcome(1, output, said.encode())
 
 
 @contextlib.contextmanager
@@ -68,13 +78,13 @@ def reading(command, source, **settings):
 def failed_reads(command):
     """Each as its name, the outcome, and the outcome that should be."""
     with opened("/", os.O_RDONLY) as folder:
-        yield "input is a directory", reading(command, folder), told("read", errno.EISDIR, HEADER)
+        yield "input is a directory", reading(command, folder), told(errno.EISDIR, HEADER)
     with opened(os.devnull, os.O_WRONLY) as sink:
-        yield "input is open for writing only", reading(command, sink), told("read", errno.EBADF, HEADER)
-    yield "input is closed", reading(command, None, preexec_fn=lambda: os.close(0)), told("read", errno.EBADF, HEADER)
+        yield "input is open for writing only", reading(command, sink), told(errno.EBADF, HEADER)
+    yield "input is closed", reading(command, None, preexec_fn=lambda: os.close(0)), told(errno.EBADF, HEADER)
     for times, rest in ((0, b""), (0, b"1,0,1,0"), (1, b""), (1, b"1,0,1,0"), (1, b"1,0,1,0\r"), (500, b"6,0,0,0")):
         with reset_after(times * LINES + rest) as source:
-            wanted = told("read", errno.ECONNRESET, HEADER + times * ANSWERS)
+            wanted = told(errno.ECONNRESET, HEADER + times * ANSWERS)
             yield f"input fails after {2 * times} lines and {rest!r}", reading(command, source), wanted
 
 
@@ -92,13 +102,13 @@ def limited(command, data, most):
 
 def failed_writes(command):
     with opened("/dev/full", os.O_WRONLY) as full:
-        yield "output is full", writing(command, LINES, full), told("write", errno.ENOSPC, b"")
+        yield "output is full", writing(command, LINES, full), told(errno.ENOSPC, b"")
     with opened(os.devnull, os.O_RDONLY) as source:
-        yield "output is open for reading only", writing(command, LINES, source), told("write", errno.EBADF, b"")
-    yield "output is closed", writing(command, LINES, None, preexec_fn=lambda: os.close(1)), told("write", errno.EBADF, b"")
+        yield "output is open for reading only", writing(command, LINES, source), told(errno.EBADF, b"")
+    yield "output is closed", writing(command, LINES, None, preexec_fn=lambda: os.close(1)), told(errno.EBADF, b"")
     # in the header, after it, in an answer, and in the answer to a line that the end of the input ends
     for data, most in ((b"", 0), (b"", 29), (LINES, 30), (LINES, 35), (LONG, 5000), (LINES[:-2], 41), (LINES[:-2], 45)):
-        wanted = told("write", errno.EFBIG, LONG_OUTPUT[:most])
+        wanted = told(errno.EFBIG, LONG_OUTPUT[:most])
         yield f"output takes {most} bytes, input of {len(data)}", limited(command, data, most), wanted
 
 
@@ -119,8 +129,8 @@ def closed_after(command, taken, heeded):
 def closed_outputs(command):
     for taken in (0, 1, 30, 5000, 100_000):
         output = LONG_OUTPUT[:taken]
-        yield f"output closed after {taken} bytes", closed_after(command, taken, True), Outcome(-signal.SIGPIPE, output, b"")
-        yield f"output closed after {taken} bytes, SIGPIPE ignored", closed_after(command, taken, False), told("write", errno.EPIPE, output)
+        yield f"output closed after {taken} bytes", closed_after(command, taken, True), told(errno.EPIPE, output)
+        yield f"output closed after {taken} bytes, SIGPIPE ignored", closed_after(command, taken, False), told(errno.EPIPE, output)
 
 
 def outcomes(command):

@@ -1,4 +1,6 @@
 // Heaps and cells come into being: FRESH, and NEW on a sound heap.
+#![tactic(auto)]
+
 mod placing;
 mod shape;
 mod zeroing;

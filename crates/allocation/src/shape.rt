@@ -4,14 +4,14 @@ ghost use Rattle.rules.specs.Refusals.{new_ok};
 ghost use Rattle.allocation.specs.Shapes.{AsShape};
 
 // A kind, and flags that say whether a finalizer is wanted. The fields are private, so that only the check makes one, and the two cannot change places.
-#[derive(Drop)]
+#[derive(Clone, Copy)]
 pub struct Shape {
     kind: u16,
     flags: u16,
 }
 
 // What a kind and a wish for a finalizer are as a shape.
-#[derive(Drop)]
+#[derive(Clone, Copy)]
 pub enum ShapeNumbers {
     Is(Shape),
     Not,

@@ -1,4 +1,6 @@
 // The answers of calls, but for NEW's: of a refusal, and of a call that is done.
+#![tactic(auto)]
+
 ghost use Rattle.std.specs.Prelude.{◌≡◌, ◌<◌};
 ghost use Rattle.rules.specs.Calls.{answers};
 

@@ -2,7 +2,7 @@
 -- Assumes nothing.
 use Prim.Native.Nat.{ℕ, ◌<◌}
 use native.Mathlib.Omega.{arith}
-use mathlib.Core.Bool.{Bool, true, false, ◌&&◌}
+use mathlib.Core.Bool.{true, false}
 use mathlib.Core.List.{List}
 use mathlib.Core.Path.{◌≡◌, refl, sym, ap, ◌∙◌}
 use lib.Dec.{eqb}
@@ -16,7 +16,7 @@ use Rattle.rules.specs.declared.audit.Row.{Row}
 use Rattle.rules.specs.declared.audit.Report.{Report}
 use Rattle.rules.specs.declared.audit.Audited.{Audited}
 use Rattle.rules.specs.Audit.{references, difference, none, plus, lost_row, size_row, listed, row_to, differences, fitting_row, Lent, admitted, refusal_of, with, audited, differences_after}
-use Rattle.laws.specs.Lists.Tests.{and_join, and_left, and_right, and_no}
+use Rattle.laws.specs.Lists.Tests.{and_left, and_right}
 use Rattle.laws.specs.Sound.Reflect.{fits_sized}
 use Rattle.laws.specs.Audit.Reports.{audited_taking, audited_refusing}
 use Rattle.audit.specs.Bounds.{Small}
@@ -27,17 +27,6 @@ use Rattle.audit.proofs.Reporting.{heap_small}
 -- the heap, and how many entries the table of differences has
 abbrev pub lent : Heap → List ℤ → Lent
 lent h before = record { heap = h; room = length before }
-
--- ---- whether tables and room fit
-
-pub unfit : (h : Heap) (room : ℕ) → fits h ≡ false → false ≡ admitted (record { heap = h; room = room })
-unfit h room e = sym (ap (λ (b : Bool). b && eqb room (cells h)) e)
-
-pub no_room : (h : Heap) (room : ℕ) → (room ≡ cells h → ⊥) → false ≡ admitted (record { heap = h; room = room })
-no_room h room n = sym (and_no (fits h) (ne_eqb room (cells h) n))
-
-pub fitting : (h : Heap) (room : ℕ) → fits h ≡ true → room ≡ cells h → true ≡ admitted (record { heap = h; room = room })
-fitting h room e n = sym (and_join e (eq-eqb room (cells h) n))
 
 module _ (p : Report) (h : Heap) (before : List ℤ) where
   -- ---- the report refuses the heap

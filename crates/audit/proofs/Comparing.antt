@@ -1,55 +1,17 @@
--- The loop that compares count and references of each cell: a cell's columns, and the loop's invariant, at the start, after a turn, and at the end.
+-- The loop that compares count and references of each cell: the loop's invariant, at the start and after a turn, and that there is room for a turn.
 -- Assumes nothing.
-use Prim.Native.Nat.{ℕ, zero, suc, ◌+◌, ◌-◌, ◌≤◌, ◌<◌}
+use Prim.Native.Nat.{ℕ, ◌+◌, ◌≤◌, ◌<◌}
 use native.Mathlib.Omega.{arith}
 use native.Mathlib.Numerals.{add-one}
-use mathlib.Core.Bool.{Bool, true, false, cond}
 use mathlib.Core.List.{List, [], ◌∷◌, ◌++◌}
-use mathlib.Core.Path.{◌≡◌, refl, sym, ap, ◌∙◌}
-use lib.Dec.{ltb}
-use lib.IntN.{ℤ, pos, negsuc, ◌-ℤ◌}
+use mathlib.Core.Path.{◌≡◌, refl, ◌∙◌}
+use lib.IntN.{ℤ, pos}
 use lib.ListN.{length, take, set, length-set}
-use lib.Seq.{take-suc-set, take_all}
-use borrow.Author.Tests.{ltb-true, ltb-false, lt-ltb, le-ltb}
+use lib.Seq.{take-suc-set}
 use Rattle.rules.specs.Audit.{up, down, cell_row, listed, row_to}
 use Rattle.audit.specs.declared.cells.Sides.{Sides}
-use Rattle.audit.specs.Cells.{lower, sides_of, sides_plus}
+use Rattle.audit.specs.Cells.{sides_of, sides_plus}
 use Rattle.audit.proofs.Bounds.{row_cells_lem, row_sum}
-
--- ---- the columns of a cell
-
-pub one_if : (a b : ℕ) → a < b → lower a b ≡ 1
-one_if a b h = rw (lt-ltb a b h) refl
-
-pub none_if : (a b : ℕ) → b ≤ a → lower a b ≡ 0
-none_if a b h = rw (le-ltb a b h) refl
-
--- of a number that is not below zero
-pos_below : (n : ℕ) → (cell_row (pos n)).below ≡ 0
-pos_below zero = refl
-pos_below (suc n) = refl
-
-pos_above : (a b n : ℕ) → a ≡ b + n → lower b a ≡ (cell_row (pos n)).above
-pos_above a b zero e = none_if b a (omega arith)
-pos_above a b (suc n) e = one_if b a (omega arith)
-
-pub below_column : (a b : ℕ) → lower a b ≡ (cell_row (pos a -ℤ pos b)).below
-below_column a zero = none_if a 0 (omega arith) ∙ sym (pos_below (a + 0))
-below_column a (suc b) = go (ltb a (suc b)) refl
-  where
-    go : (t : Bool) → ltb a (suc b) ≡ t → cond t 1 0 ≡ (cell_row (cond t (negsuc (suc b - suc a)) (pos (a - suc b)))).below
-    go true e = refl
-    go false e = sym (pos_below (a - suc b))
-
-pub above_column : (a b : ℕ) → lower b a ≡ (cell_row (pos a -ℤ pos b)).above
-above_column a zero = pos_above a 0 (a + 0) (omega arith)
-above_column a (suc b) = go (ltb a (suc b)) refl
-  where
-    go : (t : Bool) → ltb a (suc b) ≡ t → lower (suc b) a ≡ (cell_row (cond t (negsuc (suc b - suc a)) (pos (a - suc b)))).above
-    go true e = none_if (suc b) a (omega (arith, ltb-true a (suc b) e))
-    go false e = pos_above a (suc b) (a - suc b) (omega (arith, ltb-false a (suc b) e))
-
--- ---- the loop
 
 -- of n cells the first c are done, by the differences d
 pub record Comparing (d : ℕ → ℤ) (n : ℕ) (table : List ℤ) (sides : Sides) (c : ℕ) : Type 0 where
@@ -80,8 +42,3 @@ module _ {d : ℕ → ℤ} {n : ℕ} {table : List ℤ} {sides : Sides} {c : ℕ
         written = rw add-one (take-suc-set table c x (omega (arith, v.long)) ∙ (λ i. v.written i ++ (e i ∷ [])));
         added = rw add-one (s ∙ (λ i. sides_plus (v.added i) (cell_row (d c))));
       }
-
-  pub comparing_done : n ≤ c → (table ≡ listed d n) × (sides ≡ sides_of (row_to d n))
-  comparing_done h =
-      let e : c ≡ n = omega (arith, v.bound) in
-      (sym (take_all c table (omega (arith, v.long))) ∙ v.written ∙ ap (listed d) e, v.added ∙ ap (λ (k : ℕ). sides_of (row_to d k)) e)

@@ -1,4 +1,4 @@
--- References tallied into a tally of zeros are those that the definition counts; room for them, and the row that they make.
+-- References tallied into a tally of zeros are those that the definition counts, and the row that they make.
 -- Assumes nothing.
 use Prim.Native.Nat.{ℕ, zero, suc, ◌+◌, ◌-◌, ◌≤◌, ◌<◌}
 use native.Mathlib.Omega.{arith}
@@ -9,7 +9,7 @@ use lib.ListN.{length, get_or}
 use Rattle.rules.specs.Lists.{occ, dangling}
 use Rattle.rules.specs.declared.audit.Row.{Row}
 use Rattle.rules.specs.Audit.{plus, cell_row, lost_row, listed, row_to}
-use Rattle.laws.specs.Sound.Tally.{counters, TallyRoom}
+use Rattle.laws.specs.Sound.Tally.{counters}
 use Rattle.tally.specs.Tallies.{Tallies, Clear}
 use Rattle.tally.proofs.Scratch.{cells_of, cell_entry}
 use Rattle.audit.specs.declared.cells.Sides.{Sides}
@@ -29,12 +29,6 @@ same_row d e zero h = refl
 same_row d e (suc n) h = λ i. plus (same_row d e n (λ j m. h j (omega arith)) i) (cell_row (h n (omega arith) i))
 
 module _ {before : List ℤ} {count slots roots queue tally : List ℕ} (z : Lengths before count slots roots queue) (k : Clear tally (length count)) where
-  -- 64 + 8 x 1,024 + 1,024 references
-  pub room : TallyRoom tally (length roots + (length slots + length queue)) × (length roots + (length slots + length queue) < 65536)
-  room =
-      let all : length roots + (length slots + length queue) ≤ 9280 = omega (arith, z.most, z.slots_size, z.roots_size, z.queue_size) in
-      (record { some = omega (arith, k.size); fits16 = λ x. omega (arith, k.zeros x) }, omega arith)
-
   module _ {refs after : List ℕ} {lost : ℕ} (t : Tallies tally refs after 0 lost) where
     -- the tally without its entry 0 has the references of each cell
     exact_at : (c : ℕ) → c < length count → minus count (cells_of after) c ≡ difference_in count refs c

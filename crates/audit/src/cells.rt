@@ -11,7 +11,7 @@ use rules::audit::Row;
 use tally::{TALLY_MAX, tally_all};
 
 // What the loop over cells adds up. A heap has 1,024 cells at most: 16 bits hold how many there are, 32 bits their sum, so that the compiler can take eight cells a turn.
-#[derive(Drop)]
+#[derive(Clone, Copy)]
 struct Sides {
     below: u16,
     above: u16,

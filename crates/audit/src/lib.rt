@@ -1,4 +1,6 @@
 // The audit of heaps, sound or not (document 02, Q-4): how far each stored count is from the references that are there, and a report over heaps.
+#![tactic(auto)]
+
 mod cells;
 mod possible;
 mod reports;

@@ -6,7 +6,7 @@ ghost use Rattle.audit.specs.Clauses.{cells_fit, lost_fits, sum_fits};
 use rules::audit::{Report, Row};
 
 // Can k heaps have so many cells? The tests of the three columns keep their sum from passing its end.
-fn cells_fit_lem(k: u64, row: Row) -> bool
+fn cells_fit(k: u64, row: Row) -> bool
     requires { k ≤ 1000 }
     ensures { result ≡ cells_fit k row }
 {
@@ -77,7 +77,7 @@ fn possible_for(k: u64, row: Row) -> bool
     requires { k ≤ 1000 }
     ensures { result ≡ possible_for k row }
 {
-    if !cells_fit_lem(k, row) {
+    if !cells_fit(k, row) {
         return false;
     }
     let references = 64 * k + 9 * (row.below + row.at + row.above);

@@ -1,23 +1,33 @@
 -- What a byte, and the end of the input, do to the reader, the arrays and the report; and one stretch of bytes after another. Assumes nothing.
 use Prim.Native.Nat.{ℕ, suc, ◌+◌, ◌≤◌, ◌<◌}
 use native.Mathlib.Omega.{arith}
-use mathlib.Core.List.{List, [], ◌∷◌, ◌++◌, map, append_assoc}
+use mathlib.Core.List.{List, [], ◌∷◌, ◌++◌, map, append_assoc, append-nil}
 use mathlib.Core.Path.{◌≡◌, refl, sym, ap, subst, ◌∙◌}
-use lib.IntN.{ℤ}
 use lib.ListN.{length, get_or, take}
-use lib.Seq.{take-suc, take_all}
+use lib.Seq.{take-suc}
+use Rattle.std.specs.Prelude.{Option, Result, Ok, Err, IfOk}
+use Rattle.std.specs.Io.KnownBytes.{Appends}
+use Rattle.std.proofs.KnownBytes.{Appends-nil, Appends-trans}
 use Rattle.rules.specs.declared.audit.Report.{Report}
 use Rattle.rules.specs.Heap.{Heap}
 use Rattle.rules.specs.Audit.{audited, report_from}
+use Rattle.rules.specs.AuditReport.{lines_for, lines_from, totals_line}
+use Rattle.report.specs.Pieces.{TotalsWritten}
 use Rattle.dump.specs.declared.reader.Reader.{Reader}
 use Rattle.dump.specs.Reading.{State, start_state, fed, closed, heap_given, out, within, after, given}
-use Rattle.dump.specs.Holding.{Holds, Ready, Complete, Steps}
+use Rattle.dump.specs.Holding.{Holds, Ready, Steps}
 use Rattle.dump.proofs.Cutting.{given_more, given_heap, out_none, out_heap}
 use Rattle.auditor.specs.declared.Progress.{Progress}
-use Rattle.auditor.specs.declared.Served.{Served}
-use Rattle.auditor.specs.declared.Served.TheVariants.{More, Over}
+use Rattle.auditor.specs.declared.Served.TheVariants.{More}
 use Rattle.auditor.specs.Output.{whole}
-use Rattle.auditor.specs.Taking.{Held, Took, Advanced, Taken, Ended, Begun, HeapServed}
+use Rattle.auditor.specs.Taking.{Took, Advanced, Ended, Begun}
+use Rattle.auditor.specs.Written.{HeapTold, TookWith, Told, LeftTold, LastTold, text_by}
+use Rattle.auditor.proofs.Printing.{wrote_front}
+
+-- two things of a value, if there is one
+pub if_ok_both : {T E : Type 0} {P Q S : T → Type 0} (r : Result T E) → ((x : T) → P x → Q x → S x) → IfOk r P → IfOk r Q → IfOk r S
+if_ok_both (Ok x) f p q = f x p q
+if_ok_both (Err e) f p q = tt
 
 -- another reader, with the same report
 abbrev pub onward : Progress → Reader → Progress
@@ -29,10 +39,6 @@ module _ {step : State → State} {r : Reader} {entries ends : List ℕ} {r' : R
   pub still_ready : length entries' ≡ length entries → length ends' ≡ length ends → Ready r entries ends → r'.tables < 7 → Ready r' entries' ends'
   still_ready e f h m = record { room = e ∙ h.room; marks = f ∙ h.marks; unfinished = m }
 
-  pub now_complete : length ends' ≡ length ends → Held r entries ends → 7 ≤ r'.tables → Complete r' entries' ends'
-  now_complete f h m =
-      record { state = step h.state; holds = w.holds h.state h.holds; marks = f ∙ h.ready.marks; whole = omega (arith, w.count) }
-
   unfinished : (s : State) → Holds s r entries ends → r'.tables < 7 → (step s).reader.tables ≡ 7 → ⊥
   unfinished s h m e = omega (arith, ap (λ (x : Reader). x.tables) (w.holds s h).reader)
 
@@ -43,44 +49,49 @@ module _ {step : State → State} {r : Reader} {entries ends : List ℕ} {r' : R
 
 module _ (p : Progress) (b : ℕ) {entries ends : List ℕ} {r' : Reader} {entries' ends' : List ℕ} (w : Steps (λ s. fed s b) p.reader entries ends r' entries' ends') where
   -- the heap goes on
-  pub byte_more : (q : Progress) → q.reader ≡ r' → q.report ≡ p.report → Ready q.reader entries' ends' → Advanced p entries ends (b ∷ []) q entries' ends'
-  unfolding report_from
-  byte_more q e f y =
+  pub byte_more : (q : Progress) (old : Option (List ℕ)) → q.reader ≡ r' → q.report ≡ p.report → Ready q.reader entries' ends'
+      → Told p entries ends (b ∷ []) q entries' ends' old old
+  unfolding report_from lines_from
+  byte_more q old e f y =
       record {
         ready = y;
+        text = [];
+        written = Appends-nil old;
         took = λ s h.
             let few : r'.tables < 7 = omega (arith, y.unfinished, ap (λ (x : Reader). x.tables) e) in
             record {
               state = fed s b;
               holds = rw e (w.holds s h);
               took = record { heaps = []; read = λ rest. given_more s (fed s b) b rest refl (unfinished w s h few); report = f };
+              lines = refl;
             };
       }
 
-  -- a heap is complete, and the report takes it
-  byte_heap : (n q : Progress) → n.reader ≡ r' → n.report ≡ p.report → 7 ≤ r'.tables → Begun n entries' ends' q → length entries' ≡ 12354 → length ends' ≡ 7
-      → Advanced p entries ends (b ∷ []) q entries' ends'
-  unfolding report_from
-  byte_heap n q e f m g le ln =
+  -- a heap is complete, the report takes it, and its lines are written
+  pub byte_heap : (n q : Progress) (old new : Option (List ℕ)) → n.reader ≡ r' → n.report ≡ p.report → 7 ≤ r'.tables → length entries' ≡ 12354 → length ends' ≡ 7
+      → Begun n entries' ends' q → HeapTold n entries' ends' old new → Told p entries ends (b ∷ []) q entries' ends' old new
+  unfolding report_from lines_from
+  byte_heap n q old new e f m le ln g x =
       record {
         ready = record { room = le; marks = ln; unfinished = omega (arith, g.starts.none) };
+        text = x.text;
+        written = x.written;
         took = λ s h.
             let held : Holds (fed s b) n.reader entries' ends' = rw e (w.holds s h) in
+            let heap : Heap = heap_given (fed s b) in
             record {
               state = start_state;
               holds = g.starts.holds entries' ends';
               took = record {
-                heaps = heap_given (fed s b) ∷ [];
+                heaps = heap ∷ [];
                 read = λ rest. given_heap s (fed s b) b rest refl (finished w s h m);
-                report = g.report (fed s b) held ∙ ap (λ (x : Report). (audited x (whole (heap_given (fed s b)))).report) f;
+                report = g.report (fed s b) held ∙ ap (λ (y : Report). (audited y (whole heap)).report) f;
               };
+              lines =
+                  x.lines (fed s b) held ∙ ap (λ (y : Report). lines_for y (whole heap)) f
+                  ∙ sym (append-nil (lines_for p.report (whole heap)));
             };
       }
-
-  pub byte_served : (n : Progress) (x : Served) → n.reader ≡ r' → n.report ≡ p.report → 7 ≤ r'.tables → HeapServed n entries' ends' x → length entries' ≡ 12354 → length ends' ≡ 7
-      → Taken p entries ends (b ∷ []) x entries' ends'
-  byte_served n (More q) e f m g le ln = byte_heap n q e f m g le ln
-  byte_served n Over e f m g le ln = tt
 
 -- ---- the end of the input
 
@@ -93,7 +104,7 @@ module _ (p : Progress) {entries ends : List ℕ} {r' : Reader} {entries' ends' 
   unfolding report_from
   end_none q f m = λ s h. f ∙ sym (ap (λ (hs : List Heap). report_from p.report (map whole hs)) (given_nothing s ∙ out_none (closed s) (unfinished w s h m)))
 
-  end_heap : (n q : Progress) → n.reader ≡ r' → n.report ≡ p.report → 7 ≤ r'.tables → Begun n entries' ends' q → Ended p entries ends (More q)
+  pub end_heap : (n q : Progress) → n.reader ≡ r' → n.report ≡ p.report → 7 ≤ r'.tables → Begun n entries' ends' q → Ended p entries ends (More q)
   unfolding report_from
   end_heap n q e f m g = λ s h.
       let held : Holds (closed s) n.reader entries' ends' = rw e (w.holds s h) in
@@ -101,9 +112,40 @@ module _ (p : Progress) {entries ends : List ℕ} {r' : Reader} {entries' ends' 
       ∙ ap (λ (x : Report). (audited x (whole (heap_given (closed s)))).report) f
       ∙ sym (ap (λ (hs : List Heap). report_from p.report (map whole hs)) (given_nothing s ∙ out_heap (closed s) (finished w s h m)))
 
-  pub end_served : (n : Progress) (x : Served) → n.reader ≡ r' → n.report ≡ p.report → 7 ≤ r'.tables → HeapServed n entries' ends' x → Ended p entries ends x
-  end_served n (More q) e f m g = end_heap n q e f m g
-  end_served n Over e f m g = tt
+  -- and what is written
+  pub left_none : (old : Option (List ℕ)) → r'.tables < 7 → LeftTold p entries ends old old
+  unfolding lines_from
+  left_none old m = record {
+    text = [];
+    written = Appends-nil old;
+    lines = λ s h. sym (ap (λ (hs : List Heap). lines_from p.report (map whole hs)) (given_nothing s ∙ out_none (closed s) (unfinished w s h m)));
+  }
+
+  pub left_heap : (n : Progress) (old new : Option (List ℕ)) → n.reader ≡ r' → n.report ≡ p.report → 7 ≤ r'.tables → HeapTold n entries' ends' old new
+      → LeftTold p entries ends old new
+  unfolding lines_from
+  left_heap n old new e f m x = record {
+    text = x.text;
+    written = x.written;
+    lines = λ s h.
+        let held : Holds (closed s) n.reader entries' ends' = rw e (w.holds s h) in
+        let heap : Heap = heap_given (closed s) in
+        x.lines (closed s) held ∙ ap (λ (y : Report). lines_for y (whole heap)) f
+        ∙ sym (append-nil (lines_for p.report (whole heap)))
+        ∙ sym (ap (λ (hs : List Heap). lines_from p.report (map whole hs)) (given_nothing s ∙ out_heap (closed s) (finished w s h m)));
+  }
+
+-- behind that the totals
+pub last_told : (p q : Progress) (entries ends before after : List ℕ) (r : ℕ) (old mid new : Option (List ℕ)) → LeftTold p entries ends old mid → Ended p entries ends (More q)
+    → TotalsWritten q.report.totals before after r → 129 ≤ length before → length after ≡ length before → Appends mid new (take r after) → LastTold p entries ends old new
+last_told p q entries ends before after r old mid new x y z room same w =
+    let totals : take r after ≡ totals_line q.report.totals = wrote_front before (totals_line q.report.totals) after r (z.done room) z.fits same in
+    record {
+      text = x.text ++ totals_line q.report.totals;
+      written = Appends-trans old mid new x.text (totals_line q.report.totals) x.written (subst (Appends mid new) totals w);
+      all = λ s h. ap (λ (l : List ℕ). l ++ totals_line q.report.totals) (x.lines s h)
+          ∙ ap (λ (o : Report). lines_from p.report (map whole (given s [])) ++ totals_line o.totals) (y s h);
+    }
 
 -- ---- one stretch of bytes after another
 
@@ -111,10 +153,6 @@ reports_append : (p : Report) (gs hs : List Heap) → report_from p (map whole (
 unfolding report_from
 reports_append p [] hs = refl
 reports_append p (g ∷ gs) hs = reports_append (audited p (whole g)).report gs hs
-
-pub took_none : (s : State) (p : Report) → Took s p [] s p
-unfolding report_from
-took_none s p = record { heaps = []; read = λ rest. refl; report = refl }
 
 pub took_more : (s t u : State) (p q v : Report) (a b : List ℕ) → Took s p a t q → Took t q b u v → Took s p (a ++ b) u v
 took_more s t u p q v a b x y =
@@ -126,63 +164,69 @@ took_more s t u p q v a b x y =
       report = y.report ∙ ap (λ (z : Report). report_from z (map whole y.heaps)) x.report ∙ sym (reports_append p x.heaps y.heaps);
     }
 
-pub advanced_none : (p : Progress) (entries ends : List ℕ) → Ready p.reader entries ends → Advanced p entries ends [] p entries ends
-advanced_none p entries ends y = record { ready = y; took = λ s h. record { state = s; holds = h; took = took_none s p.report } }
+lines_append : (p : Report) (gs hs : List Heap) → lines_from p (map whole (gs ++ hs)) ≡ lines_from p (map whole gs) ++ lines_from (report_from p (map whole gs)) (map whole hs)
+unfolding lines_from report_from
+lines_append p [] hs = refl
+lines_append p (g ∷ gs) hs =
+    let r : Report = (audited p (whole g)).report in
+    ap (λ (l : List ℕ). lines_for p (whole g) ++ l) (lines_append r gs hs)
+    ∙ sym (append_assoc (lines_for p (whole g)) (lines_from r (map whole gs)) (lines_from (report_from r (map whole gs)) (map whole hs)))
 
-pub advanced_more : (p q t : Progress) (e n a e' n' b e'' n'' : List ℕ) → Advanced p e n a q e' n' → Advanced q e' n' b t e'' n'' → Advanced p e n (a ++ b) t e'' n''
-advanced_more p q t e n a e' n' b e'' n'' x y =
+-- what is written for heaps and others behind them
+pub text_append : (p : Report) (gs hs : List Heap) → text_by p (gs ++ hs) ≡ lines_from p (map whole gs) ++ text_by (report_from p (map whole gs)) hs
+text_append p gs hs =
+    let q : Report = report_from p (map whole gs) in
+    ap (λ (l : List ℕ). l ++ totals_line (report_from p (map whole (gs ++ hs))).totals) (lines_append p gs hs)
+    ∙ ap (λ (r : Report). (lines_from p (map whole gs) ++ lines_from q (map whole hs)) ++ totals_line r.totals) (reports_append p gs hs)
+    ∙ append_assoc (lines_from p (map whole gs)) (lines_from q (map whole hs)) (totals_line (report_from q (map whole hs)).totals)
+
+pub with_none : (s : State) (r : Report) (q : Progress) (entries ends : List ℕ) → q.report ≡ r → Holds s q.reader entries ends → TookWith s r [] q entries ends []
+unfolding report_from lines_from
+with_none s r q entries ends e h = record { state = s; holds = h; took = record { heaps = []; read = λ rest. refl; report = e }; lines = refl }
+
+pub with_more : (s : State) (p : Report) (a : List ℕ) (q : Progress) (e n x : List ℕ) (b : List ℕ) (t : Progress) (e' n' : List ℕ) (old new : Option (List ℕ))
+    → TookWith s p a q e n x → (y : Told q e n b t e' n' old new) → TookWith s p (a ++ b) t e' n' (x ++ y.text)
+unfolding took_more
+with_more s p a q e n x b t e' n' old new one y =
+    let two = y.took one.state one.holds in
     record {
-      ready = y.ready;
-      took = λ s h.
-          let one = x.took s h in
-          let two = y.took one.state one.holds in
-          record { state = two.state; holds = two.holds; took = took_more s one.state two.state p.report q.report t.report a b one.took two.took };
+      state = two.state;
+      holds = two.holds;
+      took = took_more s one.state two.state p q.report t.report a b one.took two.took;
+      lines =
+          (λ i. one.lines i ++ two.lines i)
+          ∙ ap (λ (r : Report). lines_from p (map whole one.took.heaps) ++ lines_from r (map whole two.took.heaps)) one.took.report
+          ∙ sym (lines_append p one.took.heaps two.took.heaps);
     }
 
--- the reader still holds some state
-pub still_held : (p q : Progress) (e n a e' n' : List ℕ) → Held p.reader e n → Advanced p e n a q e' n' → Held q.reader e' n'
-still_held p q e n a e' n' h x =
-    let t = x.took h.state h.holds in
-    record { ready = x.ready; state = t.state; holds = t.holds }
+pub told_none : (p : Progress) (entries ends : List ℕ) (old : Option (List ℕ)) → Ready p.reader entries ends → Told p entries ends [] p entries ends old old
+told_none p entries ends old y = record { ready = y; text = []; written = Appends-nil old; took = λ s h. with_none s p.report p entries ends refl h }
+
+pub told_more : (p q t : Progress) (e n a e' n' b e'' n'' : List ℕ) (old mid new : Option (List ℕ)) → Told p e n a q e' n' old mid → Told q e' n' b t e'' n'' mid new
+    → Told p e n (a ++ b) t e'' n'' old new
+told_more p q t e n a e' n' b e'' n'' old mid new x y = record {
+  ready = y.ready;
+  text = x.text ++ y.text;
+  written = Appends-trans old mid new x.text y.text x.written y.written;
+  took = λ s h. with_more s p.report a q e' n' x.text b t e'' n'' mid new (x.took s h) y;
+}
+
+-- what was told says what was taken
+pub told_advanced : (p q : Progress) (e n a e' n' : List ℕ) (old new : Option (List ℕ)) → Told p e n a q e' n' old new → Advanced p e n a q e' n'
+told_advanced p q e n a e' n' old new x = record {
+  ready = x.ready;
+  took = λ s h. let t = x.took s h in record { state = t.state; holds = t.holds; took = t.took };
+}
 
 -- ---- the loop over bytes
-
--- the first i bytes are taken; the arrays are as long as before
-pub record Taking (bytes : List ℕ) (p₀ : Progress) (entries₀ ends₀ : List ℕ) (d₀ : List ℤ) (out₀ : List ℕ) (entries ends : List ℕ) (d : List ℤ) (out : List ℕ) (p : Progress) (i : ℕ) : Type 0 where
-  pub entries_length : length entries ≡ length entries₀
-  pub ends_length : length ends ≡ length ends₀
-  pub differences_length : length d ≡ length d₀
-  pub out_length : length out ≡ length out₀
-  pub bound : i ≤ length bytes
-  pub advanced : Advanced p₀ entries₀ ends₀ (take i bytes) p entries ends
-
-pub taking_begin : (bytes : List ℕ) (p : Progress) (entries ends : List ℕ) (d : List ℤ) (out : List ℕ) → Ready p.reader entries ends → Taking bytes p entries ends d out entries ends d out p 0
-taking_begin bytes p entries ends d out y =
-    record { entries_length = refl; ends_length = refl; differences_length = refl; out_length = refl; bound = omega arith; advanced = advanced_none p entries ends y }
 
 one_byte_more : (bytes : List ℕ) (i : ℕ) → i < length bytes → take (i + 1) bytes ≡ take i bytes ++ (get_or bytes i 0 ∷ [])
 one_byte_more bytes i h =
     let same : i + 1 ≡ suc i = omega arith in
     ap (λ (k : ℕ). take k bytes) same ∙ take-suc bytes i 0 h
 
-was_more : (p q : Progress) (e n b e' n' : List ℕ) (x : Served) → x ≡ More q → Taken p e n b x e' n' → Advanced p e n b q e' n'
-was_more p q e n b e' n' x is t = subst (λ (y : Served). Taken p e n b y e' n') is t
-
-module _ {bytes : List ℕ} {p₀ : Progress} {entries₀ ends₀ : List ℕ} {d₀ : List ℤ} {out₀ : List ℕ} {entries ends : List ℕ} {d : List ℤ} {out : List ℕ}
-    {p : Progress} {i : ℕ} (v : Taking bytes p₀ entries₀ ends₀ d₀ out₀ entries ends d out p i) where
-  pub taking_turn : (entries' ends' : List ℕ) (d' : List ℤ) (out' : List ℕ) (x : Served) (q : Progress) → length entries' ≡ length entries → length
-      ends' ≡ length ends → length d' ≡ length d → length out' ≡ length out
-      → i < length bytes → x ≡ More q → Taken p entries ends (get_or bytes i 0 ∷ []) x entries' ends' → Taking bytes p₀ entries₀ ends₀ d₀ out₀ entries' ends' d' out' q (i + 1)
-  taking_turn entries' ends' d' out' x q le ln ld lo h is t =
-      record {
-        entries_length = le ∙ v.entries_length;
-        ends_length = ln ∙ v.ends_length;
-        differences_length = ld ∙ v.differences_length;
-        out_length = lo ∙ v.out_length;
-        bound = omega arith;
-        advanced = rw (one_byte_more bytes i h) (advanced_more p₀ p q entries₀ ends₀ (take i bytes) entries ends (get_or bytes i 0 ∷ []) entries' ends'
-            v.advanced (was_more p q entries ends _ entries' ends' x is t));
-      }
-
-  pub taking_done : length bytes ≤ i → Advanced p₀ entries₀ ends₀ bytes p entries ends
-  taking_done h = rw (take_all i bytes h) at v.advanced
+-- the first i bytes are taken
+pub told_byte : (p q t : Progress) (e n bytes : List ℕ) (i : ℕ) (e' n' e'' n'' : List ℕ) (old mid new : Option (List ℕ)) → Told p e n (take i bytes) q e' n' old mid
+    → i < length bytes → Told q e' n' (get_or bytes i 0 ∷ []) t e'' n'' mid new → Told p e n (take (i + 1) bytes) t e'' n'' old new
+told_byte p q t e n bytes i e' n' e'' n'' old mid new x h y =
+    rw (one_byte_more bytes i h) (told_more p q t e n (take i bytes) e' n' (get_or bytes i 0 ∷ []) e'' n'' old mid new x y)

@@ -7,7 +7,7 @@ use mathlib.Core.Path.{◌≡◌, refl, ◌∙◌}
 use lib.Dec.{eqb, leb}
 use lib.ListN.{length, get_or, replicate}
 use borrow.Author.Tests.{leb-true}
-use Rattle.csv.specs.Lines.{all, is_digit, lines_of, fields_of, value_of, is_number}
+use Rattle.csv_text.specs.Lines.{all, is_digit, lines_of, fields_of, value_of, is_number}
 use Rattle.rules.specs.Audit.{Sixteen}
 use Rattle.laws.specs.Lists.Tests.{and_left, and_right}
 use Rattle.laws.specs.Audit.Lines.{writes_report}

@@ -18,7 +18,7 @@ use Rattle.auditor.specs.Output.{whole, PiecesAreLines}
 
 -- ---- the table of differences, entry by entry
 
-length-listed : (d : ℕ → ℤ) (n : ℕ) → length (listed d n) ≡ n
+pub length-listed : (d : ℕ → ℤ) (n : ℕ) → length (listed d n) ≡ n
 unfolding listed
 length-listed d zero = refl
 length-listed d (suc n) = omega (arith, length-append (listed d n) (d n ∷ []), length-listed d n)

@@ -1,4 +1,4 @@
--- What some bytes of the input did to the reader, the arrays and the report. What was read, and what became of what was written, no contract can say.
+-- What some bytes of the input did to the reader, the arrays and the report. What was read and written stands in `Written`.
 -- Assumes nothing: these are definitions.
 use Rattle.std.specs.Prelude.{ℕ, ◌≤◌, ◌≡◌, List, [], ◌++◌, map}
 use Rattle.rules.specs.declared.audit.Report.{Report}

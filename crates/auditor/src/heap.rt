@@ -2,6 +2,7 @@
 ghost use Rattle.std.specs.Prelude.{◌≡◌, length};
 ghost use Rattle.dump.specs.Holding.{Complete};
 ghost use Rattle.auditor.specs.Taking.{CellsOf, HeapAudited};
+ghost use Rattle.auditor.specs.Written.{DifferencesOf};
 
 use dump::reader::Reader;
 use dump::table::table;
@@ -30,7 +31,8 @@ pub(crate) fn audit_heap(
 ) -> Audited
     requires complete { Complete reader entries.now ends.now }
     requires differences_len { length differences.old ≡ 1024 }
-    ensures { HeapAudited reader entries.now ends.now report result }
+    ensures taken { HeapAudited reader entries.now ends.now report result }
+    ensures differences { DifferencesOf reader entries.now ends.now result differences.new }
 {
     let n = cells(reader, entries, ends);
     audit::audit(

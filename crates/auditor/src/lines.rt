@@ -1,53 +1,66 @@
 // What is written: a heap's lines to standard output, a piece at a time, and the rest of what is to be said.
-ghost use Rattle.std.specs.Prelude.{◌≤◌, length};
+ghost use Rattle.std.specs.Prelude.{◌≤◌, length, OnOk};
+ghost use Rattle.std.specs.Io.KnownBytes.{Appends};
+ghost use Rattle.report.specs.Pieces.{text_from};
+ghost use Rattle.auditor.specs.Written.{lines_of};
 
 use report::write_piece;
 use rules::audit::{Audited, Row};
 use rules::{MANY, SIZE};
+use std::io;
+use std::io::Write;
 use streams::write;
 
 // Says once that the report takes no more heaps. Answers whether that was said by now.
-pub fn tell(refused: u16, said: bool) -> bool {
+pub fn tell(rt: &impl Eprint, refused: u16, said: bool) -> bool {
     if said {
         return true;
     }
     if refused != MANY {
         return false;
     }
-    io::write_all(
-        libc::STDERR_FILENO,
-        b"MANY: the report has a thousand heaps; those that follow have no line\n",
-    );
+    let _ = rt.eprintln("MANY: the report has a thousand heaps; those that follow have no line");
     true
 }
 
 // The lines of a heap with these differences, piece by piece.
-fn print_lines(heap: u64, row: Row, differences: &[i32], out: &mut [u8]) -> bool
+fn print_lines<W: Write>(
+    heap: u64,
+    row: Row,
+    differences: &[i32],
+    out: &mut [u8],
+    output: &mut W,
+) -> io::Result<()>
     requires { 4160 ≤ length out.old }
+    ensures { OnOk result (Appends (W.contents output.old) (W.contents output.new) (text_from heap row differences.now 0)) }
 {
     let mut first = 0;
     while first <= differences.len() {
         let piece = write_piece(out, heap, row, differences, first);
         let written = piece.written;
-        if !write(&out[..written]) {
-            return false;
-        }
+        write(output, &out[..written])?;
         first = piece.next;
     }
-    true
+    Ok(())
 }
 
 // The lines of a heap that the report took, by what its audit answered: one refused SIZE has only its own. One that the report refused has none.
-pub fn print(answer: Audited, differences: &[i32], out: &mut [u8]) -> bool
+pub fn print<W: Write>(
+    answer: Audited,
+    differences: &[i32],
+    out: &mut [u8],
+    output: &mut W,
+) -> io::Result<()>
     requires { 4160 ≤ length out.old }
+    ensures { OnOk result (Appends (W.contents output.old) (W.contents output.new) (lines_of answer differences.now)) }
 {
     let report = answer.report;
     let row = answer.heap;
     if SIZE < answer.refused {
-        return true;
+        return Ok(());
     }
     if answer.refused == SIZE {
-        return print_lines(report.heaps, row, &differences[..0], out);
+        return print_lines(report.heaps, row, &differences[..0], out, output);
     }
-    print_lines(report.heaps, row, differences, out)
+    print_lines(report.heaps, row, differences, out, output)
 }

@@ -1,12 +1,20 @@
 // Audits the heaps on standard input and writes the report to standard output.
 // A heap's lines go out before more is read, a piece at a time, so that a thousand heaps take no more memory than one.
 //
-// A read or a write that fails ends the run, and no line is written after it. That is reported on standard error, and so is, once, that the report takes no
-// more heaps; the language has no exit status for a program to set.
-ghost use Rattle.std.specs.Prelude.{◌≤◌, ◌≡◌, [], ◌∷◌, length};
+// A read or a write that fails ends the run, and no line is written after it. That is reported on standard error, with exit status 1. Once, it is also said
+// there that the report takes no more heaps.
+#![tactic(auto)]
+
+ghost use Rattle.std.specs.Prelude.{◌≤◌, ◌<◌, ◌≡◌, [], ◌∷◌, length, map, IfOk, IfSome, OnOk};
+ghost use Rattle.std.specs.Io.KnownBytes.{Appends};
 ghost use Rattle.rules.specs.Audit.{empty};
+ghost use Rattle.rules.specs.AuditReport.{report_text};
+ghost use Rattle.dump.specs.Dumps.{heaps_of};
 ghost use Rattle.dump.specs.Holding.{Complete};
+ghost use Rattle.dump.specs.Reading.{given, start_state};
+ghost use Rattle.auditor.specs.Output.{whole};
 ghost use Rattle.auditor.specs.Taking.{Held, HeapServed, Taken, TakenSome, Ended};
+ghost use Rattle.auditor.specs.Written.{HeapTold, LastTold, LeftTold, StepTold, Told, text_for};
 
 mod heap;
 mod lines;
@@ -17,10 +25,12 @@ use lines::{print, tell};
 use report::{PIECE, header, write_totals};
 use rules::CELLS_MAX;
 use rules::audit::{Report, Row};
+use std::io;
+use std::io::{Read, Write};
 use streams::{read_buffer, write};
 
 // Between two bytes: the reader to go on with, the report so far, and whether it was said that it takes no more heaps.
-#[derive(Drop)]
+#[derive(Clone, Copy)]
 struct Progress {
     reader: Reader,
     report: Report,
@@ -35,26 +45,27 @@ enum Served {
 }
 
 // The heap is complete: it is audited, and its lines are written.
-fn serve(
+fn serve<W: Write>(
+    rt: &impl Eprint,
     p: Progress,
     entries: &[u16],
     ends: &[usize],
     differences: &mut [i32],
     out: &mut [u8],
-) -> Served
+    output: &mut W,
+) -> io::Result<Progress>
     requires complete { Complete p.reader entries.now ends.now }
     requires differences_len { (length differences.old ≡ 1024) × (4160 ≤ length out.old) }
-    ensures { HeapServed p entries.now ends.now result }
+    ensures taken { IfOk result (λ q. HeapServed p entries.now ends.now (Served.More q)) }
+    ensures told { OnOk result (HeapTold p entries.now ends.now (W.contents output.old) (W.contents output.new)) }
 {
     let reader = p.reader;
     let answer = audit_heap(reader, entries, ends, differences, p.report);
     let n = cells(reader, entries, ends);
-    if !print(answer, &differences[..n], out) {
-        return Served::Over;
-    }
-    let many = tell(answer.refused, p.many);
+    print(answer, &differences[..n], out, output)?;
+    let many = tell(rt, answer.refused, p.many);
     let report = answer.report;
-    Served::More(Progress {
+    Ok(Progress {
         reader: start(),
         report: report,
         many: many,
@@ -62,17 +73,21 @@ fn serve(
 }
 
 // One byte of the input.
-fn take_byte(
+fn take_byte<W: Write>(
+    rt: &impl Eprint,
     p: Progress,
     byte: u8,
     entries: &mut [u16],
     ends: &mut [usize],
     differences: &mut [i32],
     out: &mut [u8],
-) -> Served
+    output: &mut W,
+) -> io::Result<Progress>
     requires held { Held p.reader entries.old ends.old }
     requires differences_len { (length differences.old ≡ 1024) × (4160 ≤ length out.old) }
-    ensures { Taken p entries.old ends.old (byte ∷ []) result entries.new ends.new }
+    ensures taken { IfOk result (λ q. Taken p entries.old ends.old (byte ∷ []) (Served.More q) entries.new ends.new) }
+    ensures told { IfOk result (λ q. Told p entries.old ends.old (byte ∷ []) q entries.new ends.new
+        (W.contents output.old) (W.contents output.new)) }
 {
     let reader = feed(p.reader, byte, entries, ends);
     let report = p.report;
@@ -82,47 +97,51 @@ fn take_byte(
         many: p.many,
     };
     if reader.tables < TABLES {
-        return Served::More(next);
+        return Ok(next);
     }
-    serve(next, entries, ends, differences, out)
+    serve(rt, next, entries, ends, differences, out, output)
 }
 
 // Bytes of the input, one by one.
-fn take(
+fn take<W: Write>(
+    rt: &impl Eprint,
     first: Progress,
     bytes: &[u8],
     entries: &mut [u16],
     ends: &mut [usize],
     differences: &mut [i32],
     out: &mut [u8],
-) -> Served
+    output: &mut W,
+) -> io::Result<Progress>
     requires held { Held first.reader entries.old ends.old }
     requires differences_len { (length differences.old ≡ 1024) × (4160 ≤ length out.old) }
-    ensures { Taken first entries.old ends.old bytes.now result entries.new ends.new }
+    ensures taken { IfOk result (λ q. Taken first entries.old ends.old bytes.now (Served.More q) entries.new ends.new) }
+    ensures told { IfOk result (λ q. Told first entries.old ends.old bytes.now q entries.new ends.new
+        (W.contents output.old) (W.contents output.new)) }
 {
     let mut p = first;
     let mut i = 0;
     while i < bytes.len() {
-        let Served::More(next) = take_byte(p, bytes[i], entries, ends, differences, out) else {
-            return Served::Over;
-        };
-        p = next;
+        p = take_byte(rt, p, bytes[i], entries, ends, differences, out, output)?;
         i += 1;
     }
-    Served::More(p)
+    Ok(p)
 }
 
 // The end of the input: a heap that lacks lines is one too.
-fn finish(
+fn finish<W: Write>(
+    rt: &impl Eprint,
     p: Progress,
     entries: &mut [u16],
     ends: &mut [usize],
     differences: &mut [i32],
     out: &mut [u8],
-) -> Served
+    output: &mut W,
+) -> io::Result<Progress>
     requires held { Held p.reader entries.old ends.old }
     requires differences_len { (length differences.old ≡ 1024) × (4160 ≤ length out.old) }
-    ensures { Ended p entries.old ends.old result }
+    ensures taken { IfOk result (λ q. Ended p entries.old ends.old (Served.More q)) }
+    ensures told { OnOk result (LeftTold p entries.old ends.old (W.contents output.old) (W.contents output.new)) }
 {
     let reader = end(p.reader, entries, ends);
     let report = p.report;
@@ -132,55 +151,58 @@ fn finish(
         many: p.many,
     };
     if reader.tables < TABLES {
-        return Served::More(last);
+        return Ok(last);
     }
-    serve(last, entries, ends, differences, out)
+    serve(rt, last, entries, ends, differences, out, output)
 }
 
 // The last line.
-fn close(
+fn close<W: Write>(
+    rt: &impl Eprint,
     p: Progress,
     entries: &mut [u16],
     ends: &mut [usize],
     differences: &mut [i32],
     out: &mut [u8],
-)
+    output: &mut W,
+) -> io::Result<()>
     requires held { Held p.reader entries.old ends.old }
     requires differences_len { (length differences.old ≡ 1024) × (4160 ≤ length out.old) }
+    ensures { OnOk result (LastTold p entries.old ends.old (W.contents output.old) (W.contents output.new)) }
 {
-    let Served::More(last) = finish(p, entries, ends, differences, out) else {
-        return;
-    };
+    let last = finish(rt, p, entries, ends, differences, out, output)?;
     let report = last.report;
     let totals = report.totals;
     let written = write_totals(out, totals);
-    write(&out[..written]);
+    write(output, &out[..written])
 }
 
 // Reads once, and takes what has come.
-fn step(
+fn step<R: Read, W: Write>(
+    rt: &impl Eprint,
     p: Progress,
     entries: &mut [u16],
     ends: &mut [usize],
     differences: &mut [i32],
     out: &mut [u8],
-) -> Served
+    input: &mut R,
+    output: &mut W,
+) -> io::Result<Served>
     requires held { Held p.reader entries.old ends.old }
     requires differences_len { (length differences.old ≡ 1024) × (4160 ≤ length out.old) }
-    ensures { TakenSome p entries.old ends.old result entries.new ends.new }
+    ensures taken { IfOk result (λ served. TakenSome p entries.old ends.old served entries.new ends.new) }
+    ensures told { IfOk result (λ served. StepTold p entries.old ends.old served entries.new ends.new
+        (R.remaining input.old) (R.remaining input.new)
+        (W.contents output.old) (W.contents output.new)) }
 {
-    let mut input = read_buffer();
-    let got = libc::read(libc::STDIN_FILENO, &mut input);
-    if got < 0 {
-        os::fail(b"read");
-        return Served::Over;
+    let mut bytes = read_buffer();
+    let n = input.read(&mut bytes)?;
+    if n == 0 {
+        close(rt, p, entries, ends, differences, out, output)?;
+        return Ok(Served::Over);
     }
-    if got == 0 {
-        close(p, entries, ends, differences, out);
-        return Served::Over;
-    }
-    let n = io::count(got, &input);
-    take(p, &input[..n], entries, ends, differences, out)
+    let next = take(rt, p, &bytes[..n], entries, ends, differences, out, output)?;
+    Ok(Served::More(next))
 }
 
 // A report that starts.
@@ -201,8 +223,11 @@ fn empty() -> Report
     }
 }
 
-// A proved loop has to end, and nothing says that the input does: the loop counts down from a number of reads that no run makes.
-fn run() {
+// A proved loop has to end, and nothing says that the input does: it ends after a number of reads that no run makes.
+fn run<R: Read, W: Write>(rt: &impl Eprint, input: &mut R, output: &mut W) -> io::Result<()>
+    ensures { OnOk result (IfSome (R.remaining input.old) (λ bytes. length bytes < u64.MAX →
+        Appends (W.contents output.old) (W.contents output.new) (text_for (given start_state bytes)))) }
+{
     let mut entries = [0u16; ENTRIES_MAX];
     let mut ends = [0usize; TABLES];
     let mut differences = [0i32; CELLS_MAX];
@@ -212,19 +237,34 @@ fn run() {
         report: empty(),
         many: false,
     };
-    let mut reads = u64::MAX;
-    while reads > 0 {
-        reads -= 1;
-        let Served::More(next) = step(p, &mut entries, &mut ends, &mut differences, &mut out) else {
-            return;
-        };
-        p = next;
+    for _ in 0..u64::MAX {
+        let served = step(
+            rt,
+            p,
+            &mut entries,
+            &mut ends,
+            &mut differences,
+            &mut out,
+            input,
+            output,
+        )?;
+        match served {
+            Served::More(next) => p = next,
+            Served::Over => return Ok(()),
+        }
     }
+    Ok(())
 }
 
-fn main() {
-    let first = header();
-    if write(&first) {
-        run();
-    }
+// The header, the lines and the totals: where it is known what there is to read, what is written is the report over its heaps.
+fn program<R: Read, W: Write>(rt: &impl Eprint, input: &mut R, output: &mut W) -> io::Result<()>
+    ensures { OnOk result (IfSome (R.remaining input.old) (λ bytes. length bytes < u64.MAX →
+        Appends (W.contents output.old) (W.contents output.new) (report_text (map whole (heaps_of bytes))))) }
+{
+    write(output, &header())?;
+    run(rt, input, output)
+}
+
+fn main(rt: HostRuntime) -> io::Result<()> {
+    program(&rt, &mut rt.stdin(), &mut rt.stdout())
 }

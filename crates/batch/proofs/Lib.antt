@@ -1,10 +1,3 @@
-pub mod Raising
-pub mod Progress
 pub mod Outcome
-pub mod Locals
-pub mod Reborrow
-pub mod Structs
-pub mod Lent
-pub mod LentTables
-pub mod Parameters
-pub mod Slots
+pub mod Progress
+pub mod Raising

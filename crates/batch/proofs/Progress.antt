@@ -1,10 +1,10 @@
 -- Where a batch stands between two records, in plain lists and numbers: what is left of it leads to what the whole of it leaves.
 --     Point                  so many records are done, so many are left, and the tables, answers and totals by now
 --     Stands                 what holds there
---     begin, turn, finish    it holds at the start, a record's turn keeps it, and at the end it says what the batch leaves
---     can-raise              the next answer can be added to the totals
+--     turn_by, finish        a record's turn keeps it, and at the end it says what the batch leaves
+--     can_raise_by           the next answer can be added to the totals
 -- Assumes nothing.
-use mathlib.Core.Path.{◌≡◌, refl, sym, ◌∙◌, ap, subst}
+use mathlib.Core.Path.{◌≡◌, sym, ◌∙◌, ap, subst, subst⁻¹}
 use mathlib.Core.List.{List, [], ◌∷◌, ◌++◌, append_assoc, append-nil}
 use Prim.Native.Nat.{ℕ, suc, ◌+◌, ◌<◌, ◌≤◌, ◌-◌}
 use native.Mathlib.Omega.{arith}
@@ -17,11 +17,11 @@ use Rattle.rules.specs.declared.batch.CallRecord.{CallRecord}
 use Rattle.rules.specs.declared.batch.Totals.{Totals}
 use Rattle.rules.specs.Heap.{Heap}
 use Rattle.rules.specs.Sound.{Ready}
-use Rattle.rules.specs.Asked.{Asked, obey, obey_all, answers_to}
+use Rattle.rules.specs.Asked.{Asked, Obeyed, obey, obey_all, answers_to}
 use Rattle.rules.specs.Batch.{Batch, asked_by, asks, raised_by, raised, obey_batch}
 use Rattle.laws.specs.Calls.Asked.{never_fresh}
 use Rattle.batch.specs.Room.{HasRoom, CanRaise}
-use Rattle.batch.specs.Run.{CanRun, AllRan}
+use Rattle.batch.specs.Run.{AllRan}
 use Rattle.laws.specs.Demand.Bounds.{obey_ready, obey_few}
 
 pub record Point : Type 0 where
@@ -65,12 +65,6 @@ module _ (h₀ : Heap) (b : Batch) where
     pub totals : raised p.totals (answers_to p.heap (rest p.i)) ≡ raised b.totals (answers_to h₀ (asks b.records))
     pub room : HasRoom p.left p.totals
     pub ready : Ready p.heap
-
-  abbrev pub start : Point
-  start = record { i = 0; left = length b.records; heap = h₀; answers = b.answers; totals = b.totals }
-
-  pub begin : CanRun b h₀ → Stands start
-  begin c = record { sum = omega arith; places = c.places; heap = refl; answers = refl; totals = refl; room = c.room; ready = c.ready }
 
   module _ (p : Point) (s : Stands p) where
     -- the record that comes now, and its answer
@@ -127,6 +121,24 @@ module _ (h₀ : Heap) (b : Batch) where
         room = raised_room p.totals answer_now (p.left - 1) one_left few;
         ready = obey_ready p.heap (asked_by record_now) s.ready;
       }
+
+      -- both, as the step and the raising of the totals leave them
+      module _ {after : Heap} {a : Answer} (o : Obeyed (asked_by record_now) p.heap after a) where
+        pub can_raise_by : CanRaise p.totals a
+        can_raise_by = subst (λ (x : Answer). CanRaise p.totals x) (sym o.answered) can_raise
+
+        pub turn_by : {sums : Totals} (left : ℕ) → left ≡ p.left - 1 → sums ≡ raised_by p.totals a
+            → Stands (record { i = p.i + 1; left = left; heap = after; answers = set p.answers p.i a; totals = sums })
+        turn_by {sums = sums} left l e = subst⁻¹ Stands led turn
+          where
+            led : record { i = p.i + 1; left = left; heap = after; answers = set p.answers p.i a; totals = sums } ≡ next
+            led = λ k. record {
+              i = p.i + 1;
+              left = l k;
+              heap = o.heap k;
+              answers = set p.answers p.i (o.answered k);
+              totals = (e ∙ ap (raised_by p.totals) o.answered) k;
+            }
 
     module _ (past : length b.records ≤ p.i) where
       none : drop p.i b.records ≡ []

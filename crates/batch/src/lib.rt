@@ -1,4 +1,6 @@
 // A whole basket in one call: the records of a batch, one after another, on a heap that is checked once.
+#![tactic(auto)]
+
 mod admission;
 mod records;
 mod totals;

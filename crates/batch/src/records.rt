@@ -59,7 +59,7 @@ pub fn run(
 )
     requires { CanRun (record { records = records.now; answers = answers.old; totals = totals.old })
         (tables kind.old flags.old count.old slots.old roots.old queue.old control.old) }
-    ensures { AllRan (record { records = records.entry.now; answers = answers.old; totals = totals.old })
+    ensures { AllRan (record { records = records.now; answers = answers.old; totals = totals.old })
         (tables kind.old flags.old count.old slots.old roots.old queue.old control.old)
         (tables kind.new flags.new count.new slots.new roots.new queue.new control.new)
         answers.new totals.new }

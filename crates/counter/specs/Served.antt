@@ -1,7 +1,7 @@
--- What a read did to the reader and the tables. What was read, and what became of what was written, no contract can say.
+-- What a read did to the reader and the tables. What was read and written stands in `Written`.
 -- Assumes nothing: these are definitions.
 use Rattle.std.specs.Prelude.{ℕ, List}
-use Rattle.csv.specs.declared.reader.Reader.{Reader}
+use Rattle.csv_text.specs.declared.reader.Reader.{Reader}
 use Rattle.rules.specs.Heap.{Heap}
 use Rattle.session.specs.Deliveries.{Took}
 use Rattle.counter.specs.declared.Served.{Served}

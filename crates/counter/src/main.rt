@@ -2,13 +2,22 @@
 // It reads what has come, takes it, and writes the answers before it reads again, so that each goes out as soon as its line has ended.
 //
 // A read that fails ends the run: the lines before it are answered by then, and the unfinished one is not. A write that fails ends it as well.
-// Either is reported on standard error; the language has no exit status for a program to set.
-ghost use Rattle.std.specs.Prelude.{◌≤◌, length};
-ghost use Rattle.rules.specs.Heap.{tables};
-ghost use Rattle.counter.specs.Served.{Answered, AnsweredSome};
+// Either is reported on standard error, with exit status 1.
+#![tactic(auto)]
 
-use csv::reader::{Reader, start};
+ghost use Rattle.std.specs.Prelude.{◌≤◌, ◌<◌, length, IfOk, IfSome, OnOk};
+ghost use Rattle.std.specs.Io.KnownBytes.{Appends};
+ghost use Rattle.csv_text.specs.Lines.{records_of};
+ghost use Rattle.rules.specs.Heap.{tables};
+ghost use Rattle.session.specs.Program.{at_start, output as output_for};
+ghost use Rattle.session.specs.Session.{session};
+ghost use Rattle.counter.specs.Served.{Answered, AnsweredSome};
+ghost use Rattle.counter.specs.Written.{ServedTold, Told, ToldLast};
+
+use csv_text::reader::{Reader, start};
 use session::{end, header, take};
+use std::io;
+use std::io::{Read, Write};
 use streams::{read_buffer, write};
 
 // After a read: the reader to go on with, or the run is over.
@@ -19,7 +28,7 @@ enum Served {
 }
 
 // Writes the answers to the lines that end in these bytes, in one go.
-fn answer(
+fn answer<W: Write>(
     kind: &mut [u16],
     flags: &mut [u16],
     count: &mut [u16],
@@ -30,27 +39,32 @@ fn answer(
     reader: Reader,
     bytes: &[u8],
     out: &mut [u8],
-) -> Served
+    output: &mut W,
+) -> io::Result<Reader>
     requires bytes_len_bound { length bytes.now ≤ 2048 }
     requires in_bounds { 65536 ≤ length out.old }
-    ensures { Answered reader
+    ensures taken { IfOk result (λ next. Answered reader
         (tables kind.old flags.old count.old slots.old roots.old queue.old control.old)
         bytes.now
-        (tables kind.new flags.new count.new slots.new roots.new queue.new control.new) result }
+        (tables kind.new flags.new count.new slots.new roots.new queue.new control.new)
+        (Served.More next)) }
+    ensures told { IfOk result (λ next. Told reader
+        (tables kind.old flags.old count.old slots.old roots.old queue.old control.old)
+        bytes.now next
+        (tables kind.new flags.new count.new slots.new roots.new queue.new control.new)
+        (W.contents output.old) (W.contents output.new)) }
 {
     let p = take(
         kind, flags, count, slots, roots, queue, control, reader, bytes, out,
     );
     let written = p.written;
     let next = p.reader;
-    if !write(&out[..written]) {
-        return Served::Over;
-    }
-    Served::More(next)
+    write(output, &out[..written])?;
+    Ok(next)
 }
 
 // The end of the input: an unfinished line is answered.
-fn close(
+fn close<W: Write>(
     kind: &mut [u16],
     flags: &mut [u16],
     count: &mut [u16],
@@ -60,16 +74,22 @@ fn close(
     control: &mut [u16],
     reader: Reader,
     out: &mut [u8],
-) {
+    output: &mut W,
+) -> io::Result<()>
+    ensures { 31 ≤ length out.old → OnOk result (ToldLast reader
+        (tables kind.old flags.old count.old slots.old roots.old queue.old control.old)
+        (tables kind.new flags.new count.new slots.new roots.new queue.new control.new)
+        (W.contents output.old) (W.contents output.new)) }
+{
     let p = end(
         kind, flags, count, slots, roots, queue, control, reader, out,
     );
     let written = p.written;
-    write(&out[..written]);
+    write(output, &out[..written])
 }
 
 // Reads once, and answers. Each byte of a read ends at most one line, so the answers, at most 31 bytes each, fit the 65,536 bytes of `out`.
-fn serve(
+fn serve<R: Read, W: Write>(
     kind: &mut [u16],
     flags: &mut [u16],
     count: &mut [u16],
@@ -79,26 +99,28 @@ fn serve(
     control: &mut [u16],
     reader: Reader,
     out: &mut [u8],
-) -> Served
+    input: &mut R,
+    output: &mut W,
+) -> io::Result<Served>
     requires { 65536 ≤ length out.old }
-    ensures { AnsweredSome reader
+    ensures taken { IfOk result (λ served. AnsweredSome reader
         (tables kind.old flags.old count.old slots.old roots.old queue.old control.old)
-        (tables kind.new flags.new count.new slots.new roots.new queue.new control.new) result }
+        (tables kind.new flags.new count.new slots.new roots.new queue.new control.new) served) }
+    ensures told { IfOk result (λ served. ServedTold reader
+        (tables kind.old flags.old count.old slots.old roots.old queue.old control.old)
+        (tables kind.new flags.new count.new slots.new roots.new queue.new control.new)
+        (R.remaining input.old) (R.remaining input.new)
+        (W.contents output.old) (W.contents output.new) served) }
 {
-    let mut input = read_buffer();
-    let got = libc::read(libc::STDIN_FILENO, &mut input);
-    if got < 0 {
-        os::fail(b"read");
-        return Served::Over;
-    }
-    if got == 0 {
+    let mut bytes = read_buffer();
+    let n = input.read(&mut bytes)?;
+    if n == 0 {
         close(
-            kind, flags, count, slots, roots, queue, control, reader, out,
-        );
-        return Served::Over;
+            kind, flags, count, slots, roots, queue, control, reader, out, output,
+        )?;
+        return Ok(Served::Over);
     }
-    let n = io::count(got, &input);
-    answer(
+    let next = answer(
         kind,
         flags,
         count,
@@ -107,14 +129,19 @@ fn serve(
         queue,
         control,
         reader,
-        &input[..n],
+        &bytes[..n],
         out,
-    )
+        output,
+    )?;
+    Ok(Served::More(next))
 }
 
 // A fresh heap has 0 in every entry. `out` is made once: 65,536 zeros for each read would cost half as much again as its lines.
-// A proved loop has to end, and nothing says that the input does: the loop counts down from a number of reads that no run makes.
-fn run() {
+// A proved loop has to end, and nothing says that the input does: it ends after a number of reads that no run makes.
+fn run<R: Read, W: Write>(input: &mut R, output: &mut W) -> io::Result<()>
+    ensures { OnOk result (IfSome (R.remaining input.old) (λ bytes. length bytes < u64.MAX →
+        Appends (W.contents output.old) (W.contents output.new) (session at_start (records_of bytes)))) }
+{
     let mut kind = [0u16; 256];
     let mut flags = [0u16; 256];
     let mut count = [0u16; 256];
@@ -122,12 +149,10 @@ fn run() {
     let mut roots = [0u16; 64];
     let mut queue = [0u16; 256];
     let mut control = [0u16; 2];
-    let mut out = io::large_buffer();
+    let mut out = [0u8; 65536];
     let mut reader = start();
-    let mut reads = u64::MAX;
-    while reads > 0 {
-        reads -= 1;
-        let Served::More(next) = serve(
+    for _ in 0..u64::MAX {
+        let served = serve(
             &mut kind,
             &mut flags,
             &mut count,
@@ -137,16 +162,26 @@ fn run() {
             &mut control,
             reader,
             &mut out,
-        ) else {
-            return;
-        };
-        reader = next;
+            input,
+            output,
+        )?;
+        match served {
+            Served::More(next) => reader = next,
+            Served::Over => return Ok(()),
+        }
     }
+    Ok(())
 }
 
-fn main() {
-    let first = header();
-    if write(&first) {
-        run();
-    }
+// The header, and then the answers to all that is read: where it is known what there is to read, it is known what is written.
+fn program<R: Read, W: Write>(input: &mut R, output: &mut W) -> io::Result<()>
+    ensures { OnOk result (IfSome (R.remaining input.old) (λ bytes. length bytes < u64.MAX →
+        Appends (W.contents output.old) (W.contents output.new) (output_for bytes))) }
+{
+    write(output, &header())?;
+    run(input, output)
+}
+
+fn main(rt: HostRuntime) -> io::Result<()> {
+    program(&mut rt.stdin(), &mut rt.stdout())
 }

@@ -7,8 +7,8 @@ use mathlib.Core.Bool.{Bool, true, false}
 use lib.Dec.{eqb}
 use lib.ListN.{length, length-append}
 use borrow.Author.Tests.{eqb-true, eqb-false}
-use Rattle.csv.specs.Lines.{lines_of}
-use Rattle.csv.proofs.Parts.{lines_other, lines_lone}
+use Rattle.csv_text.specs.Lines.{lines_of}
+use Rattle.csv_text.proofs.Parts.{lines_other, lines_lone}
 use Rattle.rules.specs.Heap.{Heap}
 use Rattle.dump.specs.Dumps.{table_of, heaps_from}
 use Rattle.dump.specs.Reading.{State, start_state, with, spoiled, in_line, with_cr, last_field, next_line, line_end, fed, out, next, given}

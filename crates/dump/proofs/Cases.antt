@@ -6,7 +6,7 @@ use mathlib.Core.List.{[], ◌∷◌, ◌++◌}
 use mathlib.Core.Bool.{Bool, true, false, ◌||◌, not, cond, or-true, and-false}
 use lib.Dec.{eqb}
 use borrow.Author.Tests.{le-leb, lt-leb, lt-ltb, le-ltb, eq-eqb, ne_eqb}
-use Rattle.csv.specs.Lines.{is_digit}
+use Rattle.csv_text.specs.Lines.{is_digit}
 use Rattle.dump.specs.declared.reader.Reader.{Reader}
 use Rattle.dump.specs.Reading.{State, with, spoil, spoiled, digit, next_field, entered, in_line, with_cr, plain}
 use Rattle.dump.specs.Reading.{last_field, line_end, fed, last_line, cut_short, whole}

@@ -8,8 +8,8 @@ use lib.Dec.{eqb}
 use lib.ListN.{length, length-append}
 use lib.Seq.{append_snoc}
 use borrow.Author.Tests.{eqb-true, eqb-false, ne_eqb}
-use Rattle.csv.specs.Lines.{fields_of, is_digit}
-use Rattle.csv.proofs.Parts.{fields_comma}
+use Rattle.csv_text.specs.Lines.{fields_of, is_digit}
+use Rattle.csv_text.proofs.Parts.{fields_comma}
 use Rattle.dump.specs.declared.reader.Reader.{Reader}
 use Rattle.dump.specs.Dumps.{unfit, table_of}
 use Rattle.dump.specs.Reading.{State, with, spoiled, digit, entered, in_line, with_cr}

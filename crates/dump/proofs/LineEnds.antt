@@ -5,7 +5,7 @@ use mathlib.Core.Path.{◌≡◌, refl, sym, ◌∙◌, ap, subst⁻¹}
 use mathlib.Core.List.{List, [], ◌∷◌, ◌++◌, append-nil}
 use mathlib.Core.Bool.{Bool, true, false}
 use lib.ListN.{length, length-append}
-use Rattle.csv.specs.Lines.{fields_of}
+use Rattle.csv_text.specs.Lines.{fields_of}
 use Rattle.dump.specs.Dumps.{table_of}
 use Rattle.dump.specs.Reading.{State, start_state, spoiled, entered, last_field, next_line}
 use Rattle.dump.specs.Holding.{size}

@@ -5,8 +5,8 @@ use mathlib.Core.List.{List, [], ◌∷◌, ◌++◌, map}
 use mathlib.Core.Bool.{true, false, ◌&&◌, ◌||◌, not, cond}
 use lib.Dec.{eqb, leb}
 use lib.ListN.{length}
-use Rattle.csv.specs.Lines.{all, fields_of, value_from, value_of, is_number}
-use Rattle.csv.proofs.Meaning.{grows}
+use Rattle.csv_text.specs.Lines.{all, fields_of, value_from, value_of, is_number}
+use Rattle.csv_text.proofs.Meaning.{grows}
 use Rattle.dump.specs.Dumps.{unfit, table_of}
 use Rattle.dump.specs.Reading.{State}
 use Rattle.dump.specs.Holding.{size}

@@ -8,8 +8,8 @@ use lib.Dec.{eqb}
 use lib.ListN.{length, length-append}
 use lib.Seq.{append_snoc}
 use borrow.Author.Tests.{eqb-true, eqb-false, eq-eqb, ne_eqb}
-use Rattle.csv.specs.Lines.{onto_first, lines_of}
-use Rattle.csv.proofs.Parts.{lines_cons}
+use Rattle.csv_text.specs.Lines.{onto_first, lines_of}
+use Rattle.csv_text.proofs.Parts.{lines_cons}
 use Rattle.rules.specs.Heap.{Heap}
 use Rattle.dump.specs.Dumps.{table_of, heap_of, heaps_from}
 

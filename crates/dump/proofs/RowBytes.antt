@@ -7,9 +7,9 @@ use mathlib.Core.Bool.{Bool, true, false, and-false}
 use lib.Dec.{leb, ltb}
 use lib.ListN.{length}
 use borrow.Author.Tests.{leb-true, leb-false, ltb-true, ltb-false, le-leb, lt-leb, lt-ltb, le-ltb}
-use Rattle.csv.specs.Lines.{onto_first, fields_of, is_digit, value_from}
-use Rattle.csv.proofs.Meaning.{grows}
-use Rattle.csv.proofs.Parts.{Some, fields_comma, fields_other, fields_some}
+use Rattle.csv_text.specs.Lines.{onto_first, fields_of, is_digit, value_from}
+use Rattle.csv_text.proofs.Meaning.{grows}
+use Rattle.csv_text.proofs.Parts.{Some, fields_comma, fields_other, fields_some}
 use Rattle.dump.specs.declared.reader.Reader.{Reader}
 use Rattle.dump.specs.Dumps.{unfit}
 use Rattle.dump.specs.Reading.{State, with, spoil, digit}

@@ -7,10 +7,10 @@ use mathlib.Core.Bool.{Bool, true, false, ◌&&◌, ◌||◌, not, cond, and_ass
 use lib.Dec.{eqb, leb}
 use lib.ListN.{length, length-append, length-replicate}
 use borrow.Author.Tests.{leb-true, leb-false, eqb-true, eqb-false, le-leb, lt-leb, ne_eqb}
-use Rattle.csv.specs.Lines.{all, fields_of, value_from, value_of, is_number}
-use Rattle.csv.proofs.Meaning.{grows}
-use Rattle.csv.proofs.Numbers.{number_grows}
-use Rattle.csv.proofs.Parts.{Some, fields_some}
+use Rattle.csv_text.specs.Lines.{all, fields_of, value_from, value_of, is_number}
+use Rattle.csv_text.proofs.Meaning.{grows}
+use Rattle.csv_text.proofs.Numbers.{number_grows}
+use Rattle.csv_text.proofs.Parts.{Some, fields_some}
 use Rattle.dump.specs.Dumps.{unfit, table_of}
 use Rattle.dump.specs.Reading.{State, with, spoiled, entered, with_cr}
 use Rattle.dump.specs.Holding.{size}

@@ -2,7 +2,7 @@
 -- roots, queue, control. Lines, fields and numbers are those of the crate csv.
 -- Assumes nothing: these are definitions.
 use Rattle.std.specs.Prelude.{ℕ, List, [], ◌∷◌, ◌++◌, map, cond, eqb, length, get_or, replicate}
-use Rattle.csv.specs.Lines.{all, lines_of, fields_of, value_of, is_number}
+use Rattle.csv_text.specs.Lines.{all, lines_of, fields_of, value_of, is_number}
 use Rattle.rules.specs.Heap.{Heap, tables}
 
 -- a table that fits no N: it alone is longer than all seven of the largest heap, which have 12 x 1,024 + 66 entries

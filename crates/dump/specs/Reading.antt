@@ -2,7 +2,7 @@
 -- stand the tables of the heap so far.
 -- Assumes nothing: these are definitions.
 use Rattle.std.specs.Prelude.{ℕ, ◌+◌, ◌*◌, ◌-◌, List, [], ◌∷◌, ◌++◌, true, false, ◌||◌, not, cond, eqb, leb, ltb, get_or}
-use Rattle.csv.specs.Lines.{is_digit}
+use Rattle.csv_text.specs.Lines.{is_digit}
 use Rattle.rules.specs.Heap.{Heap, tables}
 use Rattle.dump.specs.Dumps.{unfit}
 use Rattle.dump.specs.declared.reader.Reader.{Reader}

@@ -13,7 +13,7 @@ pub const ENTRIES_MAX: usize = 12354;
 
 // The heap so far: its finished tables and stored entries, then the digits and the value of the unfinished field. `begun` says whether the line has a byte.
 // A CR is not part of the line until the next byte is known: `cr` says whether one is held back. A heap that is `spoilt` can fit no N, whatever follows.
-#[derive(Drop)]
+#[derive(Clone, Copy)]
 pub struct Reader {
     pub tables: usize,
     pub end: usize,

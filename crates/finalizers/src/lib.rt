@@ -1,4 +1,6 @@
 // Finalizers run one at a time, oldest first: START and FINISH, each on a sound heap.
+#![tactic(auto)]
+
 mod finishing;
 mod starting;
 

@@ -1,4 +1,6 @@
 // The freeing step, which the cascade and the sweep share: a cell becomes free.
+#![tactic(auto)]
+
 ghost use Rattle.std.specs.Prelude.{◌≡◌, ◌+◌, ◌*◌, ◌≤◌, length};
 ghost use Rattle.rules.specs.Heap.{plain, wiped_slots};
 ghost use Rattle.freeing.specs.Freeing.{CellInTables, CellFreed};

@@ -20,7 +20,7 @@ pub extern "C" fn vek_batch(
     answers: &mut [Answer],
     totals: &mut Totals,
 ) -> Answer
-    ensures { Batched (record { records = records.entry.now; answers = answers.old; totals = totals.old })
+    ensures { Batched (record { records = records.now; answers = answers.old; totals = totals.old })
         (tables kind.old flags.old count.old slots.old roots.old queue.old control.old)
         (tables kind.new flags.new count.new slots.new roots.new queue.new control.new)
         answers.new totals.new result }

@@ -1,5 +1,7 @@
 // The C engine's door: each call under its C name, on lent tables and plain numbers, whatever they are. A slice is a pointer and a length in C.
 // A call is refused SIZE or DAMAGED here; what else it may be refused for, its own function tells on a heap that is sound by then.
+#![tactic(auto)]
+
 mod audits;
 mod batches;
 mod finalizing;

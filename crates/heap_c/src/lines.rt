@@ -3,7 +3,7 @@ ghost use Rattle.std.specs.Prelude.{◌*◌, ◌≤◌};
 ghost use Rattle.rules.specs.Heap.{tables};
 ghost use Rattle.session.specs.Taking.{BytesTaken, InputEnded};
 
-use csv::reader::Reader;
+use csv_text::reader::Reader;
 use session::{Progress, end, take};
 
 #[unsafe(no_mangle)]

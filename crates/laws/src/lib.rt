@@ -1,1 +1,2 @@
 // Theorems about the rules, in specs/: no code.
+#![tactic(auto)]

@@ -1,6 +1,8 @@
 // Marking: cells and slots mark each other, nested at most DEPTH deep; a cell met at that depth is noted, and served by a later scan.
 // Marks are bits: the first half of the words has the marked cells, the second the noted ones.
 // Only `unmarked`, `set_marked`, `to_mark`, `note` and the searches for noted cells know how marks are kept.
+#![tactic(auto)]
+
 ghost use Rattle.std.specs.Prelude.{◌+◌, ◌-◌, ◌*◌, ◌/◌, ◌^◌, ◌≤◌, ◌<◌, ◌++◌, ◌≡◌, length, get_or, replicate};
 ghost use Rattle.rules.specs.Marking.{mark_from};
 ghost use Rattle.rules.specs.Depth.{mark_cell, mark_slot, mark_table, noted_between, next_noted, scan_all};

@@ -2,11 +2,11 @@ ghost use Rattle.std.specs.Prelude.{◌+◌, ◌<◌, ◌≡◌};
 ghost use Rattle.numbers.specs.Numbers.{AsCell};
 
 // A cell's number, below the number of cells.
-#[derive(Drop)]
+#[derive(Clone, Copy)]
 pub struct Cell(usize);
 
 // What a number is as a cell's.
-#[derive(Drop)]
+#[derive(Clone, Copy)]
 pub enum CellNumber {
     Is(Cell),
     Not,

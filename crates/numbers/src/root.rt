@@ -2,11 +2,11 @@ ghost use Rattle.std.specs.Prelude.{◌≡◌};
 ghost use Rattle.numbers.specs.Numbers.{AsRoot};
 
 // A root's number, 0 to 63.
-#[derive(Drop)]
+#[derive(Clone, Copy)]
 pub struct Root(usize);
 
 // What a number is as a root's.
-#[derive(Drop)]
+#[derive(Clone, Copy)]
 pub enum RootNumber {
     Is(Root),
     Not,

@@ -2,11 +2,11 @@ ghost use Rattle.std.specs.Prelude.{◌≡◌};
 ghost use Rattle.numbers.specs.Numbers.{AsSlot};
 
 // A slot's number within its cell, 0 to 7.
-#[derive(Drop)]
+#[derive(Clone, Copy)]
 pub struct Slot(usize);
 
 // What a number is as a slot's.
-#[derive(Drop)]
+#[derive(Clone, Copy)]
 pub enum SlotNumber {
     Is(Slot),
     Not,

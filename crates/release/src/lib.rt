@@ -1,6 +1,8 @@
 // Reference counting: a count rises, a reference comes off with all that follows from it, and the writes that do both.
 // A take-off keeps a work list of the cells whose count fell to zero. Each of them is freed, in the order in which they joined: the lent table
 // `freed`, which says which cells went, is that list, as references. Behind the list's end it may hold anything.
+#![tactic(auto)]
+
 ghost use Rattle.std.specs.Prelude.{◌≡◌, List, [], ◌∷◌, ◌++◌, map, ℕ, suc, ◌-◌, ◌≤◌, length, take};
 ghost use Rattle.rules.specs.Heap.{tables, slots_of};
 ghost use Rattle.rules.specs.Release.{start, raise, finalizable, refzero, decref, decrefs, drain, release};

@@ -6,8 +6,8 @@ use mathlib.Core.List.{[], ◌∷◌, ◌++◌}
 use lib.IntN.{ℤ, pos, negsuc, nat_abs}
 use lib.ListN.{length, length-append}
 use lib.Signed.{mag}
-use Rattle.csv.specs.Decimal.{decimal_of, field_text, last_text}
-use Rattle.csv.proofs.Decimal.{decimal_digits}
+use Rattle.csv_text.specs.Decimal.{decimal_of, field_text, last_text}
+use Rattle.csv_text.proofs.Decimal.{decimal_digits}
 use Rattle.rules.specs.declared.audit.Row.{Row}
 use Rattle.rules.specs.Audit.{cell_row}
 use Rattle.rules.specs.AuditReport.{signed_field, columns, cell_line, heap_line, totals_line}

@@ -1,14 +1,12 @@
--- The loop that writes the lines of cells: its invariant, at the start, after a turn, and at the end.
+-- The loop that writes the lines of cells: its invariant, at the start and after a turn.
 -- Assumes nothing.
 use Prim.Native.Nat.{ℕ, suc, ◌+◌, ◌*◌, ◌-◌, ◌≤◌, ◌<◌}
 use native.Mathlib.Omega.{arith}
 use mathlib.Core.List.{List, ◌++◌}
-use mathlib.Core.Path.{◌≡◌, ap, ◌∙◌}
+use mathlib.Core.Path.{◌≡◌, ap}
 use lib.IntN.{ℤ}
-use lib.ListN.{length}
-use lib.Seq.{length-sets}
-use Rattle.csv.specs.Written.{Wrote}
-use Rattle.csv.proofs.Written.{wrote_nothing, wrote_more}
+use Rattle.csv_text.specs.Written.{Wrote}
+use Rattle.csv_text.proofs.Written.{wrote_nothing, wrote_more}
 use Rattle.rules.specs.AuditReport.{cell_line, cell_lines}
 
 -- the lines of the cells from `first` to c stand in the buffer; `before` is what it held
@@ -41,11 +39,3 @@ module _ {before : List ℕ} {heap : ℕ} {d : ℕ → ℤ} {first end : ℕ} {o
         near = omega (arith, v.near, v.begun);
         wrote = rw (next_line_lem heap d first c v.begun) (wrote_more _ _ _ _ _ _ _ _ v.wrote w);
       }
-
-  pub done : end ≤ c → Wrote before 0 (cell_lines heap d first (end - first)) out at
-  done h =
-      let e : c ≡ end = omega (arith, v.bound) in
-      rw e at v.wrote
-
-  pub same_room : length out ≡ length before
-  same_room = ap length v.wrote.bytes ∙ length-sets before 0 (cell_lines heap d first (c - first))

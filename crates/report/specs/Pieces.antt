@@ -1,6 +1,6 @@
 -- The lines of a heap, a piece at a time. Assumes nothing: these are definitions.
 use Rattle.std.specs.Prelude.{ℕ, suc, ◌-◌, ◌≤◌, ◌<◌, ◌≡◌, List, [], ◌++◌, cond, leb, ℤ, length}
-use Rattle.csv.specs.Written.{Wrote}
+use Rattle.csv_text.specs.Written.{Wrote}
 use Rattle.rules.specs.declared.audit.Row.{Row}
 use Rattle.rules.specs.AuditReport.{cell_lines, heap_line, totals_line}
 use Rattle.report.specs.declared.piece.Piece.{Piece}

@@ -1,12 +1,12 @@
 // The columns of one cell: by the side of zero that its difference is on, all but that number is known.
 ghost use Rattle.std.specs.Prelude.{[], ◌∷◌, ◌+◌, ◌≤◌, length};
-ghost use Rattle.csv.specs.Written.{Wrote};
+ghost use Rattle.csv_text.specs.Written.{Wrote};
 ghost use Rattle.rules.specs.Audit.{cell_row};
 ghost use Rattle.rules.specs.AuditReport.{columns};
 ghost use Rattle.report.specs.Room.{Room, side_text};
 
 use crate::columns::put_signed;
-use csv::number::put_byte;
+use csv_text::number::put_byte;
 use signed::negative;
 
 // Six bytes, which the compiler writes as two words.

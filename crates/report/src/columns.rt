@@ -1,10 +1,10 @@
 // The columns that a line ends with, each a number and what stands after it.
-ghost use Rattle.csv.specs.Decimal.{field_text, last_text};
-ghost use Rattle.csv.specs.Written.{Wrote};
+ghost use Rattle.csv_text.specs.Decimal.{field_text, last_text};
+ghost use Rattle.csv_text.specs.Written.{Wrote};
 ghost use Rattle.rules.specs.AuditReport.{signed_of, signed_field, columns};
 ghost use Rattle.report.specs.Room.{Room};
 
-use csv::number::{put_byte, put_number};
+use csv_text::number::{put_byte, put_number};
 use rules::audit::Row;
 use signed::{down, negative, up};
 

@@ -1,4 +1,6 @@
 // The lines of an audit's report: the header, a heap's lines a piece at a time, and the totals. Any room is answered: where it is too small nothing is written.
+#![tactic(auto)]
+
 ghost use Rattle.std.specs.Prelude.{◌≡◌};
 ghost use Rattle.rules.specs.AuditReport.{header as headerText};
 

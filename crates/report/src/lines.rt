@@ -1,12 +1,12 @@
 // The lines of a report, put into a buffer one after another. The room is required, not checked: a line that is cut short would be a wrong line.
 ghost use Rattle.std.specs.Prelude.{◌+◌, ◌*◌, ◌-◌, ◌≤◌, [], ◌∷◌, ◌++◌, length};
-ghost use Rattle.csv.specs.Written.{Wrote};
+ghost use Rattle.csv_text.specs.Written.{Wrote};
 ghost use Rattle.rules.specs.AuditReport.{columns, cell_line, heap_line, totals_line, cell_lines};
 ghost use Rattle.report.specs.Room.{Room, entry};
 
 use crate::cell::put_cell;
 use crate::columns::{put_column, put_columns};
-use csv::number::put_byte;
+use csv_text::number::put_byte;
 use rules::audit::Row;
 use signed::wide;
 

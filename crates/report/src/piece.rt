@@ -11,7 +11,7 @@ const CELLS: usize = 64;
 pub const PIECE: usize = CELLS * CELL_LINE;
 
 // How much was written, and the cell that the next piece begins with: all lines are written when it is beyond the heap's own line, which stands for the cell behind the last.
-#[derive(Drop)]
+#[derive(Clone, Copy)]
 pub struct Piece {
     pub written: usize,
     pub next: usize,

@@ -1,7 +1,7 @@
 -- Document 02, Q-4: the report's bytes. "Output is CSV after RFC 4180 with CR LF": no field has a comma, a quote or a line's end in it, so none is quoted.
 -- Assumes nothing: these are definitions.
 use Rattle.std.specs.Prelude.{ℕ, zero, suc, ◌+◌, ◌≡◌, List, [], ◌∷◌, ◌++◌, map, cond, eqb, ℤ, pos, negsuc, take}
-use Rattle.csv.specs.Decimal.{decimal_of, field_text, last_text}
+use Rattle.csv_text.specs.Decimal.{decimal_of, field_text, last_text}
 use Rattle.rules.specs.declared.audit.Row.{Row}
 use Rattle.rules.specs.declared.audit.Report.{Report}
 use Rattle.rules.specs.Heap.{cells}

@@ -5,7 +5,7 @@ pub const HEAPS_MAX: u64 = 1000;
 
 // The columns of a report, for a cell, a heap or all heaps: cells below, at and above zero, the sum of their differences, lost references, and heaps refused SIZE.
 #[repr(C)]
-#[derive(Drop)]
+#[derive(Clone, Copy)]
 pub struct Row {
     pub below: u64,
     pub at: u64,
@@ -17,7 +17,7 @@ pub struct Row {
 
 // How many heaps a report has taken, and their rows added up.
 #[repr(C)]
-#[derive(Drop)]
+#[derive(Clone, Copy)]
 pub struct Report {
     pub heaps: u64,
     pub totals: Row,
@@ -25,7 +25,7 @@ pub struct Report {
 
 // DONE or why the heap was refused, its row, and the report with the heap in it.
 #[repr(C)]
-#[derive(Drop)]
+#[derive(Clone, Copy)]
 pub struct Audited {
     pub refused: u16,
     pub heap: Row,

@@ -5,7 +5,7 @@ pub const RECORDS_MAX: usize = 4096;
 
 // The numbers of a call: its own, 1 to 8, and its arguments, unused ones 0.
 #[repr(C)]
-#[derive(Drop)]
+#[derive(Clone, Copy)]
 pub struct CallRecord {
     pub call: u16,
     pub first: u16,
@@ -15,7 +15,7 @@ pub struct CallRecord {
 
 // Running totals: calls done, calls refused, cells freed, cells queued.
 #[repr(C)]
-#[derive(Drop)]
+#[derive(Clone, Copy)]
 pub struct Totals {
     pub done: u64,
     pub refused: u64,

@@ -1,4 +1,6 @@
 // What every crate of the heap shares: the limits, the refusal numbers and the answers. The rules are in specs/.
+#![tactic(auto)]
+
 pub mod audit;
 pub mod batch;
 
@@ -39,7 +41,7 @@ pub const MANY: u16 = 14;
 
 // What a call answers: DONE or why it was refused, how many cells it freed and queued, and the cell that NEW made.
 #[repr(C)]
-#[derive(Drop)]
+#[derive(Clone, Copy)]
 pub struct Answer {
     pub refused: u16,
     pub freed: u16,

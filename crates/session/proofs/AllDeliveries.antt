@@ -5,8 +5,8 @@ use mathlib.Core.Path.{◌≡◌, refl, subst, subst⁻¹}
 use mathlib.Core.List.{List, [], ◌∷◌, ◌++◌, append_assoc}
 use lib.ListN.{length, take, drop, length-drop}
 use lib.Seq.{take-append_seam, drop-nil}
-use Rattle.csv.specs.Reading.{reader_start, closed}
-use Rattle.csv.specs.declared.reader.Reader.{Reader}
+use Rattle.csv_text.specs.Reading.{reader_start, closed}
+use Rattle.csv_text.specs.declared.reader.Reader.{Reader}
 use Rattle.rules.specs.Heap.{Heap}
 use Rattle.session.specs.declared.taking.Progress.{Progress}
 use Rattle.session.specs.Taking.{State, begun, takes, ends, Gave}

@@ -5,16 +5,16 @@ use mathlib.Core.Path.{◌≡◌, refl, sym, ◌∙◌, ap}
 use mathlib.Core.List.{List, [], ◌∷◌, ◌++◌, append_assoc, append-nil}
 use mathlib.Core.Bool.{Bool, true, false, cond}
 use lib.Dec.{leb}
-use lib.ListN.{length, take, drop, take-append-drop, length-append}
+use lib.ListN.{length, take, drop, take-append-drop}
 use lib.Seq.{take-append_seam}
-use Rattle.csv.specs.Reading.{reader_start, fed, closed, given, at_end, records}
-use Rattle.csv.specs.declared.reader.Record.{Record}
-use Rattle.csv.specs.declared.reader.Reader.{Reader}
-use Rattle.csv.specs.declared.reader.Step.{Step}
-use Rattle.csv.specs.declared.reader.Step.TheVariants.{More, Line}
-use Rattle.csv.specs.declared.reader.Last.{Last}
-use Rattle.csv.specs.declared.reader.Last.TheVariants.{Nothing, Final}
-use Rattle.csv.proofs.Whole.{reads_all}
+use Rattle.csv_text.specs.Reading.{reader_start, fed, closed, given, at_end, records}
+use Rattle.csv_text.specs.declared.reader.Record.{Record}
+use Rattle.csv_text.specs.declared.reader.Reader.{Reader}
+use Rattle.csv_text.specs.declared.reader.Step.{Step}
+use Rattle.csv_text.specs.declared.reader.Step.TheVariants.{More, Line}
+use Rattle.csv_text.specs.declared.reader.Last.{Last}
+use Rattle.csv_text.specs.declared.reader.Last.TheVariants.{Nothing, Final}
+use Rattle.csv_text.proofs.Whole.{reads_all}
 use Rattle.rules.specs.Heap.{Heap}
 use Rattle.rules.specs.Asked.{obey_all}
 use Rattle.session.specs.declared.taking.Progress.{Progress}
@@ -118,12 +118,6 @@ went room x (b ∷ rest) = go (leb (length x.text + 31) room) (went room (advanc
 gave_text : {x : State} {before after : List ℕ} {k : Heap} {r : Progress} → Gave x before k after r → take r.written after ≡ x.text
 gave_text {x} {before} g =
     rw (g.progress, g.out) (take-append_seam x.text (drop (length x.text) before))
-
--- which fits
-pub gave_fits : {x : State} {before after : List ℕ} {k : Heap} {r : Progress} → Gave x before k after r → r.written ≤ length after
-gave_fits {x} {before} {r = r} g =
-    let written : r.written ≡ length x.text = ap (λ (z : Progress). z.written) g.progress in
-    rw g.out (omega (arith, written, length-append x.text (drop (length x.text) before)))
 
 -- ---- the whole input
 

@@ -8,10 +8,10 @@ use lib.Dec.{leb}
 use lib.ListN.{length}
 use lib.Seq.{take_all}
 use borrow.Author.Tests.{leb-false, le-leb}
-use Rattle.csv.specs.Reading.{reader_start, fed, closed}
-use Rattle.csv.specs.declared.reader.Reader.{Reader}
-use Rattle.csv.specs.declared.reader.Last.{Last}
-use Rattle.csv.specs.declared.reader.Last.TheVariants.{Nothing, Final}
+use Rattle.csv_text.specs.Reading.{reader_start, fed, closed}
+use Rattle.csv_text.specs.declared.reader.Reader.{Reader}
+use Rattle.csv_text.specs.declared.reader.Last.{Last}
+use Rattle.csv_text.specs.declared.reader.Last.TheVariants.{Nothing, Final}
 use Rattle.rules.specs.Heap.{Heap}
 use Rattle.session.specs.declared.taking.Progress.{Progress}
 use Rattle.session.specs.Taking.{State, begun, advance, takes, ends, BytesTaken}

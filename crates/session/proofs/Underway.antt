@@ -8,16 +8,16 @@ use mathlib.Core.Bool.{false}
 use lib.ListN.{length, get_or, drop, drop_of_length-le}
 use lib.Seq.{sets-eq, drop-cons}
 use borrow.Author.Tests.{le-leb, lt-leb}
-use Rattle.csv.specs.Reading.{reader_start, fed}
-use Rattle.csv.specs.Written.{Wrote}
-use Rattle.csv.specs.declared.reader.Record.{Record}
-use Rattle.csv.specs.declared.reader.Record.TheVariants.{Numbers, Malformed}
-use Rattle.csv.specs.declared.reader.Reader.{Reader}
-use Rattle.csv.specs.declared.reader.Step.{Step}
-use Rattle.csv.specs.declared.reader.Step.TheVariants.{More, Line}
-use Rattle.csv.specs.declared.reader.Last.{Last}
-use Rattle.csv.specs.declared.reader.Last.TheVariants.{Nothing, Final}
-use Rattle.csv.proofs.Written.{wrote_nothing, wrote_more}
+use Rattle.csv_text.specs.Reading.{reader_start, fed}
+use Rattle.csv_text.specs.Written.{Wrote}
+use Rattle.csv_text.specs.declared.reader.Record.{Record}
+use Rattle.csv_text.specs.declared.reader.Record.TheVariants.{Numbers, Malformed}
+use Rattle.csv_text.specs.declared.reader.Reader.{Reader}
+use Rattle.csv_text.specs.declared.reader.Step.{Step}
+use Rattle.csv_text.specs.declared.reader.Step.TheVariants.{More, Line}
+use Rattle.csv_text.specs.declared.reader.Last.{Last}
+use Rattle.csv_text.specs.declared.reader.Last.TheVariants.{Nothing, Final}
+use Rattle.csv_text.proofs.Written.{wrote_nothing, wrote_more}
 use Rattle.rules.specs.Heap.{Heap}
 use Rattle.laws.specs.Calls.Admission.{admission}
 use Rattle.laws.specs.Calls.Asked.{asks_fresh, never_fresh}

@@ -1,8 +1,8 @@
 -- Document 01, "The program": what it writes for an input.
 -- Assumes nothing: these are definitions.
 use Rattle.std.specs.Prelude.{ℕ, ◌≡◌, List, [], ◌∷◌, ◌++◌}
-use Rattle.csv.specs.Lines.{records_of}
-use Rattle.csv.specs.Reading.{reader_start}
+use Rattle.csv_text.specs.Lines.{records_of}
+use Rattle.csv_text.specs.Reading.{reader_start}
 use Rattle.rules.specs.Heap.{Heap, fresh}
 use Rattle.session.specs.Session.{session}
 use Rattle.session.specs.Deliveries.{Delivered}

@@ -1,9 +1,9 @@
 -- Document 01, "The program": what each line of the input does, and the output line that it gets.
 -- Assumes nothing: these are definitions.
 use Rattle.std.specs.Prelude.{ℕ, List, [], ◌∷◌, ◌++◌, map, cond, eqb}
-use Rattle.csv.specs.Decimal.{rendered}
-use Rattle.csv.specs.declared.reader.Record.{Record}
-use Rattle.csv.specs.declared.reader.Record.TheVariants.{Numbers, Malformed}
+use Rattle.csv_text.specs.Decimal.{rendered}
+use Rattle.csv_text.specs.declared.reader.Record.{Record}
+use Rattle.csv_text.specs.declared.reader.Record.TheVariants.{Numbers, Malformed}
 use Rattle.rules.specs.declared.Answer.{Answer}
 use Rattle.rules.specs.Heap.{Heap}
 use Rattle.rules.specs.Asked.{Asked, call_of, obey, obey_all}

@@ -2,13 +2,13 @@
 -- taken only while the answer that it may call for has room.
 -- Assumes nothing: these are definitions.
 use Rattle.std.specs.Prelude.{ℕ, ◌+◌, ◌≤◌, ◌≡◌, List, [], ◌∷◌, ◌++◌, cond, leb, length, drop}
-use Rattle.csv.specs.Reading.{reader_start, fed, closed}
-use Rattle.csv.specs.Written.{Wrote}
-use Rattle.csv.specs.declared.reader.Reader.{Reader}
-use Rattle.csv.specs.declared.reader.Step.{Step}
-use Rattle.csv.specs.declared.reader.Step.TheVariants.{More, Line}
-use Rattle.csv.specs.declared.reader.Last.{Last}
-use Rattle.csv.specs.declared.reader.Last.TheVariants.{Nothing, Final}
+use Rattle.csv_text.specs.Reading.{reader_start, fed, closed}
+use Rattle.csv_text.specs.Written.{Wrote}
+use Rattle.csv_text.specs.declared.reader.Reader.{Reader}
+use Rattle.csv_text.specs.declared.reader.Step.{Step}
+use Rattle.csv_text.specs.declared.reader.Step.TheVariants.{More, Line}
+use Rattle.csv_text.specs.declared.reader.Last.{Last}
+use Rattle.csv_text.specs.declared.reader.Last.TheVariants.{Nothing, Final}
 use Rattle.rules.specs.Heap.{Heap}
 use Rattle.session.specs.declared.taking.Progress.{Progress}
 use Rattle.session.specs.Session.{line_for, after_line}

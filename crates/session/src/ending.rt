@@ -4,7 +4,7 @@ ghost use Rattle.session.specs.Taking.{InputEnded};
 
 use crate::line::{ANSWER_LEN, answer};
 use crate::taking::Progress;
-use csv::reader::{Last, Reader, start};
+use csv_text::reader::{Last, Reader, start};
 use soundness::admit;
 
 // Answers an unfinished line, after which nothing is held. Without room for its answer nothing is done, and the reader is handed back as it was.
@@ -26,7 +26,7 @@ pub fn end(
         out.new result }
 {
     let nothing = start();
-    match csv::reader::end(reader) {
+    match csv_text::reader::end(reader) {
         Last::Nothing => Progress {
             reader: nothing,
             taken: 0,

@@ -1,4 +1,6 @@
 // Lines that arrive in bits: bytes in, answers out, on one heap.
+#![tactic(auto)]
+
 mod ending;
 mod first;
 mod line;

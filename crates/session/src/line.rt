@@ -1,14 +1,14 @@
 // A line of the input, obeyed and answered.
 ghost use Rattle.std.specs.Prelude.{◌≡◌, cond, ◌+◌, ◌≤◌, eqb, length};
-ghost use Rattle.csv.specs.Written.{Wrote};
+ghost use Rattle.csv_text.specs.Written.{Wrote};
 ghost use Rattle.laws.specs.Calls.Admission.{admission};
 ghost use Rattle.rules.specs.Asked.{call_of, Obeyed};
 ghost use Rattle.rules.specs.Heap.{tables};
 ghost use Rattle.session.specs.Session.{line_of, line_for, after_line};
 
 use answers::refuse;
-use csv::reader::Record;
-use csv::render::render;
+use csv_text::reader::Record;
+use csv_text::render::render;
 use rules::{Answer, DONE};
 use steps::{LINE, names_call, step};
 

@@ -1,17 +1,17 @@
 // Bytes as they come: however they are cut, what is written for them in all is the same.
 ghost use Rattle.std.specs.Prelude.{◌≡◌, ◌+◌, ◌*◌, ◌≤◌, length};
-ghost use Rattle.csv.specs.Reading.{fed};
+ghost use Rattle.csv_text.specs.Reading.{fed};
 ghost use Rattle.laws.specs.Calls.Admission.{admission};
 ghost use Rattle.rules.specs.Heap.{tables};
 ghost use Rattle.session.specs.Taking.{ByteTaken, BytesTaken};
 
 use crate::line::{ANSWER_LEN, answer};
-use csv::reader::{Reader, Step, feed, start};
+use csv_text::reader::{Reader, Step, feed, start};
 use soundness::admit;
 
 // The reader to go on with, how many bytes were taken, and how many were written.
 #[repr(C)]
-#[derive(Drop)]
+#[derive(Clone, Copy)]
 pub struct Progress {
     pub reader: Reader,
     pub taken: usize,

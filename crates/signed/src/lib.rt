@@ -1,4 +1,6 @@
 // Signed numbers: a cell's difference, and the two sides of zero, each operation a function of its own. Above these no proof speaks of bits.
+#![tactic(auto)]
+
 ghost use Rattle.std.specs.Prelude.{◌≡◌, ◌≤◌, pos, ◌-ℤ◌};
 ghost use Rattle.std.specs.Int.Signed.{lt_z};
 ghost use Rattle.rules.specs.Audit.{up, down};

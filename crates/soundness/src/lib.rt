@@ -1,5 +1,7 @@
 // Whether the seven lent tables fit N cells, and whether the heap in them is sound.
 // Queue, roots and slots are read once, and the references in them tallied, so that no test has to search.
+#![tactic(auto)]
+
 mod admission;
 
 ghost use Rattle.std.specs.Prelude.{◌≡◌, true, ◌&&◌, ℕ, ◌+◌, ◌*◌, ◌<◌, ◌≤◌, eqb, length, get_or};

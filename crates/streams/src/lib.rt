@@ -1,5 +1,11 @@
 // Standard input and output, as the programs use them.
-ghost use Rattle.std.specs.Prelude.{◌≡◌, length};
+#![tactic(auto)]
+
+ghost use Rattle.std.specs.Prelude.{◌≡◌, length, OnOk};
+ghost use Rattle.std.specs.Io.KnownBytes.{Appends};
+
+use std::io;
+use std::io::Write;
 
 // For one read.
 pub fn read_buffer() -> [u8; 2048]
@@ -8,11 +14,9 @@ pub fn read_buffer() -> [u8; 2048]
     [0; 2048]
 }
 
-// Writes all of it to standard output, or reports on standard error that it could not.
-pub fn write(text: &[u8]) -> bool {
-    if io::write_all(libc::STDOUT_FILENO, text) {
-        return true;
-    }
-    os::fail(b"write");
-    false
+// Writes all of it, or fails.
+pub fn write<W: Write>(output: &mut W, text: &[u8]) -> io::Result<()>
+    ensures { OnOk result (Appends (W.contents output.old) (W.contents output.new) text.now) }
+{
+    output.write_all(text)
 }

@@ -25,7 +25,7 @@ use Rattle.laws.specs.Collect.Phases.{Enqueued, enqueued}
 use Rattle.laws.specs.Collect.Unlinking.{SlotsCovered}
 use Rattle.laws.specs.Collect.Live.{due_only, due_once, due_room, due_within, kept_bits, live_used}
 use Rattle.laws.specs.Collect.Left.{unlink_covered}
-use Rattle.laws.specs.Words.Cells.{get_d_bits_of}
+use Rattle.laws.specs.Words.Cells.{get_or-bits_of}
 use Rattle.laws.specs.Words.Marks.{WordsFor, HasMarks, marks_zeros, words_zeros, marked_bits, marked_spare}
 use Rattle.marking.specs.Steps.{cells_of}
 use Rattle.sweep.specs.Phases.{is_rescued, due_of, garbage_of, rescued_of, MarkedUsed, Scratch, QueueRoom, Queued, Unlinked, Same, Freed, Decided, MarkedQueued, rounds, Swept, Collected}
@@ -165,7 +165,7 @@ module _ {h : Heap} (s : SoundBut h []) {n₁ q₁ w₁ words : List ℕ} {r : �
   -- only used cells are marked
   pub marked_used : MarkedUsed h.kind (marked_of words)
   marked_used c one = elim (dec_lt c (cells h)) [
-    | yes l ↦ live_used h s c (omega (arith, sym (get_d_bits_of (cells h) (marked_of words) c l) ∙ ap (λ (m : List ℕ). get_or m c 0) kept_words))
+    | yes l ↦ live_used h s c (omega (arith, sym (get_or-bits_of (cells h) (marked_of words) c l) ∙ ap (λ (m : List ℕ). get_or m c 0) kept_words))
     | no f ↦ absurd (omega (arith, marked_spare (cells h) words (kept_marks h) a.marked c (omega arith)))
   ]
 

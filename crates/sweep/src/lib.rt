@@ -1,4 +1,6 @@
 // COLLECT: two markings with a queueing between them, two rounds of sweeping, and the rescued.
+#![tactic(auto)]
+
 mod cells;
 mod queueing;
 mod rescuing;

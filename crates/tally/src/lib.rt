@@ -1,4 +1,6 @@
 // How often each cell is referred to: entry r of a tally has how often the reference r was met so far, which names cell r - 1. Entry 0 takes the empty references, so that they need no test of their own; what it has says nothing.
+#![tactic(auto)]
+
 ghost use Rattle.std.specs.Prelude.{◌≡◌, [], ◌∷◌, ◌+◌, ◌%◌, ◌<◌, eqb, length};
 ghost use Rattle.rules.specs.Lists.{all};
 ghost use Rattle.laws.specs.Sound.Tally.{TallyRoom};

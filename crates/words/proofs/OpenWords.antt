@@ -10,7 +10,7 @@ use lib.Bits.{bit_and, and_le_l}
 use lib.ListN.{get_or}
 use lib.Pow.{pow_mono}
 use Rattle.rules.specs.Words.{bit, is_open}
-use Rattle.laws.specs.Words.Bits.{bit_le, bit_and, bit_not, bit_past, from_below, from_on}
+use Rattle.laws.specs.Words.Bits.{bit_le, bit_and_lem, bit_not, bit_past, from_below, from_on}
 use Rattle.laws.specs.Words.Cells.{bit_of_at, open_is, is_open_lem}
 use Rattle.words.specs.Search.{OpenWord, Ahead}
 
@@ -23,10 +23,10 @@ open_word words marks j hw hm =
     record {
       has = λ i l o.
           let r = open_is words marks (64 * j + i) o in
-          bit_and w ((2 ^ 64 - 1) - m) i ∙ omega (arith, bit_not 64 m i hm l, bit_of_at words j i l, bit_of_at marks j i l, r.0, r.1);
+          bit_and_lem w ((2 ^ 64 - 1) - m) i ∙ omega (arith, bit_not 64 m i hm l, bit_of_at words j i l, bit_of_at marks j i l, r.0, r.1);
       only = λ i e. elim (dec_lt i 64) [
         | yes l ↦
-            let both = bit_and w ((2 ^ 64 - 1) - m) i in
+            let both = bit_and_lem w ((2 ^ 64 - 1) - m) i in
             let not-marked = bit_not 64 m i hm l in
             let bit-w = bit_le w i in
             let bit-m = bit_le m i in

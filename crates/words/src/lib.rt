@@ -1,4 +1,6 @@
 // Cells as bits of 64-bit words: cell c has bit c % 64 of word c / 64.
+#![tactic(auto)]
+
 pub mod counting;
 pub mod search;
 pub mod used;

@@ -6,14 +6,14 @@ ghost use Rattle.words.specs.Search.{OpenWord, AllFrom, FoundIn};
 use numbers::cell::{Cell, CellNumber};
 
 // The cells that are left of a search: in the word that begins at cell `base` those that have a bit in `bits`, and the open cells of the words after it.
-#[derive(Drop)]
+#[derive(Clone, Copy)]
 pub struct Rest {
     base: usize,
     bits: u64,
 }
 
 // What a search finds: a cell, and what is left after it.
-#[derive(Drop)]
+#[derive(Clone, Copy)]
 pub enum Found {
     Is(Cell, Rest),
     Not,

@@ -6,7 +6,7 @@ use numbers::root::Root;
 use rules::{EMPTY, KIND};
 
 // An object's cell, or why there is none.
-#[derive(Drop)]
+#[derive(Clone, Copy)]
 pub enum Object {
     Is(Cell),
     Refused(u16),

@@ -10,7 +10,7 @@ use Rattle.rules.specs.Refusals.{Call, number, lowest, conditions, is_fresh, ref
 use Rattle.rules.specs.Refusals.Call.{FRESH}
 use Rattle.rules.specs.Calls.{answers, refuse, done, act, by_refusal, step}
 use Rattle.laws.specs.Lists.Tests.{split}
-use Rattle.laws.specs.Lists.Tables.{get_d_zeros}
+use Rattle.laws.specs.Lists.Tables.{get_or-zeros}
 use Rattle.laws.specs.Sound.Reflect.{sized_fits}
 use Rattle.laws.specs.Sound.Facts.{ready_tests, tests_ready}
 
@@ -128,11 +128,11 @@ fresh_ready n l m =
         control = refl;
       };
       sound = record {
-        rule1 = λ c d. (omega (arith, get_d_zeros n c), λ e. (get_d_zeros n c, get_d_zeros n c, λ j k. get_d_zeros (8 * n) (8 * c + j)));
-        rule2 = λ c d. (⊎_elim (λ e. absurd (omega (arith, get_d_zeros n c))) (λ e. absurd (omega (arith, get_d_zeros n c))), λ e. inl (get_d_zeros n c));
-        rule3 = (λ i d. inl (get_d_zeros 64 i), λ c j d k. inl (get_d_zeros (8 * n) (8 * c + j)), λ i d. inl (get_d_zeros n i));
-        rule4 = (omega arith, λ i j o d e. omega arith, λ i d. absurd (omega arith), λ i d e. get_d_zeros n i);
+        rule1 = λ c d. (omega (arith, get_or-zeros n c), λ e. (get_or-zeros n c, get_or-zeros n c, λ j k. get_or-zeros (8 * n) (8 * c + j)));
+        rule2 = λ c d. (⊎_elim (λ e. absurd (omega (arith, get_or-zeros n c))) (λ e. absurd (omega (arith, get_or-zeros n c))), λ e. inl (get_or-zeros n c));
+        rule3 = (λ i d. inl (get_or-zeros 64 i), λ c j d k. inl (get_or-zeros (8 * n) (8 * c + j)), λ i d. inl (get_or-zeros n i));
+        rule4 = (omega arith, λ i j o d e. omega arith, λ i d. absurd (omega arith), λ i d e. get_or-zeros n i);
         rule5 = inl refl;
-        rule6 = λ c u. absurd (omega (arith, get_d_zeros n c));
+        rule6 = λ c u. absurd (omega (arith, get_or-zeros n c));
       };
     }

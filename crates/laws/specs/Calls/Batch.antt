@@ -13,7 +13,7 @@ use Rattle.rules.specs.Heap.{Heap}
 use Rattle.rules.specs.Sound.{Ready}
 use Rattle.rules.specs.Check.{fits, sound}
 use Rattle.rules.specs.Refusals.{Reason, number, lowest}
-use Rattle.rules.specs.Refusals.Reason.{SIZE, DAMAGED, TOTAL}
+use Rattle.rules.specs.Refusals.Reason.{SIZE, DAMAGED, NUMBER, EMPTY, KIND, TAKEN, FULL, BUSY, NONE, IDLE, LINE, TOTAL}
 use Rattle.rules.specs.Batch.{Batch, WhyBatch, lists_fit, ends, some_ends, batch_conditions, batch_refusal, refusal_of}
 use Rattle.rules.specs.Batch.WhyBatch.{unsized, unequal, long, unsound, done_ends, refused_ends, freed_ends, queued_ends}
 use Rattle.laws.specs.Lists.Tests.{split, clash, fails, refuted, and_join, and_left, and_right, and_no, or_false}
@@ -163,6 +163,15 @@ module _ (h : Heap) (b : Batch) where
   table_found TOTAL (refused_ends l) = ends_found (λ r. omega (arith, r.1))
   table_found TOTAL (freed_ends l) = ends_found (λ r. omega (arith, r.2))
   table_found TOTAL (queued_ends l) = ends_found (λ r. omega (arith, r.3))
+  table_found NUMBER never = elim never [ ]
+  table_found EMPTY never = elim never [ ]
+  table_found KIND never = elim never [ ]
+  table_found TAKEN never = elim never [ ]
+  table_found FULL never = elim never [ ]
+  table_found BUSY never = elim never [ ]
+  table_found NONE never = elim never [ ]
+  table_found IDLE never = elim never [ ]
+  table_found LINE never = elim never [ ]
 
   -- where the table gives a number, the batch is refused, by that or a lower one
   pub batch_bound : (k : Reason) → WhyBatch k h b → (1 ≤ refusal_of h b) × (refusal_of h b ≤ number k)

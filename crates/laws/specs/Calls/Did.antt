@@ -12,7 +12,7 @@ use Rattle.rules.specs.Refusals.Call.{FRESH, NEW, CLEAR, COPY, LOAD, STORE, COLL
 use Rattle.rules.specs.Calls.{Result, refuse, done, finished, act, by_refusal, step, step_lent, references, by_answer, listed, Did, room}
 use Rattle.rules.specs.Numbers.{names}
 use Rattle.laws.specs.Lists.Tests.{split}
-use Rattle.laws.specs.Lists.Tables.{get_d_zeros}
+use Rattle.laws.specs.Lists.Tables.{get_or-zeros}
 use Rattle.laws.specs.Calls.Admission.{ready_or_refused}
 use Rattle.laws.specs.Calls.Lent.{lent_fits_lem, lent_misfits, fits_lent}
 
@@ -102,4 +102,4 @@ rest_listed lent r e many i behind =
     let zeros : List ℕ = replicate (length lent - length r.freed) 0 in
     let at : i ≡ length front + (i - length front) = omega (arith, length-map r.freed suc) in
     ap (λ (l : List ℕ). get_or l i 0) (listed_done lent r e) ∙ ap (λ (j : ℕ). get_or (front ++ zeros) j 0) at
-    ∙ get_or-append-add front zeros (i - length front) 0 ∙ get_d_zeros (length lent - length r.freed) (i - length front)
+    ∙ get_or-append-add front zeros (i - length front) 0 ∙ get_or-zeros (length lent - length r.freed) (i - length front)

@@ -96,7 +96,7 @@ lowered h (zero ∷ l) v =
     (lowered_none h _ (λ x. occ_other (suc x) 0 (λ e. omega arith))) (lowered h l (covered_empty h l v))
 lowered h (suc c ∷ l) v =
     lowered_then h _ _ (λ x. occ x (c ∷ [])) (λ x. occ (suc x) l) _ (λ x. omega (arith, occ_cons (suc x) (suc c) l, occ_suc x c))
-    (lowered_one h c (covered_first h c l v)) (lowered _ l (covered_rest h c l v))
+    (lowered_one h c (covered_first h c l v)) (lowered (set_count h c (decremented (count_of h c))) l (covered_rest h c l v))
 
 -- references that are empty come off nothing
 pub lower_none : (h : Heap) (l : List ℕ) → ((i : ℕ) → i < length l → get_or l i 0 ≡ 0) → lower_all h l ≡ h

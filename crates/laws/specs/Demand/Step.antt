@@ -18,7 +18,7 @@ use Rattle.rules.specs.Demand3.{stood}
 use Rattle.laws.specs.Lists.Tests.{none_of, clash, and_left, and_right}
 use Rattle.laws.specs.Lists.Occ.{occ_nil, occ_empty, occ_refs, zero_refs}
 use Rattle.laws.specs.Lists.Select.{select_only}
-use Rattle.laws.specs.Lists.Tables.{get_d_zeros}
+use Rattle.laws.specs.Lists.Tables.{get_or-zeros}
 use Rattle.laws.specs.Sound.But.{SoundBut}
 use Rattle.laws.specs.Sound.Facts.{ready_tests, ready_facts, facts_ready}
 use Rattle.laws.specs.Reach.Safe.{Kept}
@@ -136,7 +136,7 @@ module _ (h : Heap) (s : SoundBut h []) where
   unfolding done fresh
   fresh_good =
       let z = (facts_ready s).sized in
-      rw (step_fresh h z) (record { sound = ready_facts (fresh_ready (cells h) z.least z.most); kept = λ c i u b. absurd (omega (arith, get_d_zeros (cells h) c)) })
+      rw (step_fresh h z) (record { sound = ready_facts (fresh_ready (cells h) z.least z.most); kept = λ c i u b. absurd (omega (arith, get_or-zeros (cells h) c)) })
 
   pub good_step : (call : Call) → Good h call (step h call)
   good_step = by_fresh fresh_good eight_good

@@ -85,4 +85,5 @@ pub record FreesNothing (h : Heap) : Type 0 where
 pub freeing_alone_false : ¬ OfTables (λ g. FreesNothing g ↔ ¬ LooseRing g)
 freeing_alone_false claim =
     let swept = trace.1.1.1.1.1.1.1.1.1.0 in
-    (claim empty begins events trace (ring 1) between_ring).0 (record { after = queued_ring; answer = _; sweep = record { lent = _; list = _; did = swept; done = refl }; freed = refl }) (stands_loose 1)
+    (claim empty begins events trace (ring 1) between_ring).0
+    (record { after = queued_ring; answer = _; sweep = record { lent = _; list = _; did = swept; done = refl }; freed = refl }) (stands_loose 1)

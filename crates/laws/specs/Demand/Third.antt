@@ -3,7 +3,7 @@
 use Rattle.std.specs.Prelude.{ℕ, List, [], ◌≡◌}
 use Rattle.std.proofs.Common.{arith, ◌∙◌, ap, subst}
 use Rattle.std.proofs.Math.Path.{subst⁻¹}
-use Rattle.std.proofs.Math.Logic.{Iff·trans}
+use mathlib.Core.Logic.Iff.{trans}
 use Rattle.rules.specs.declared.Answer.{Answer}
 use Rattle.rules.specs.Heap.{Heap, kind_of}
 use Rattle.rules.specs.Reach.{Exact}
@@ -48,8 +48,8 @@ claim h s l t = record {
       let at : e.after ≡ (collect before).heap = (swept_as before x.0 did c.done).0 ∙ swept_heap before x.0 in
       subst⁻¹ (λ (g : Heap). Exact g) at (collect_exact before x.0);
   counted = λ g b. counted_at g (between_sound l s t b);
-  quiet = λ g b. let x = between_sound l s t b in Iff·trans (quiet_at g x) (counted_at g x);
-  answered = λ g b. let x = between_sound l s t b in Iff·trans (answered_at g x) (counted_at g x);
+  quiet = λ g b. let x = between_sound l s t b in trans (quiet_at g x) (counted_at g x);
+  answered = λ g b. let x = between_sound l s t b in trans (answered_at g x) (counted_at g x);
 }
 
 pub demand_3 : Demand3

@@ -7,12 +7,12 @@ use Rattle.rules.specs.Reach.Chain.{root, entry, further}
 use Rattle.rules.specs.Reach.LooseChain.{one}
 use Rattle.rules.specs.Events.Finds.{here, later}
 use Rattle.rules.specs.Witness.{Witness}
-use Rattle.laws.specs.Lists.Tables.{get_d_zeros}
+use Rattle.laws.specs.Lists.Tables.{get_or-zeros}
 use Rattle.laws.specs.Demand.Example.{empty, holding, ring, events, begins, trace}
 
 -- empty roots and an empty queue reach nothing
 pub nothing_reached : (slots : List ℕ) (c : ℕ) → ¬ Chain (replicate 64 0) [] slots c
-nothing_reached slots c (root i e) = omega (arith, get_d_zeros 64 i)
+nothing_reached slots c (root i e) = omega (arith, get_or-zeros 64 i)
 nothing_reached slots c (entry i e) = omega arith
 nothing_reached slots c (further {p} k l) = nothing_reached slots p k
 

@@ -18,10 +18,10 @@ inside [] i h = omega arith
 inside (x ∷ l) zero h = omega arith
 inside (x ∷ l) (suc i) h = omega (arith, inside l i h)
 
-pub get_d_zeros : (n i : ℕ) → get_or {A = ℕ} (replicate n 0) i 0 ≡ 0
-get_d_zeros zero i = refl
-get_d_zeros (suc n) zero = refl
-get_d_zeros (suc n) (suc i) = get_d_zeros n i
+pub get_or-zeros : (n i : ℕ) → get_or {A = ℕ} (replicate n 0) i 0 ≡ 0
+get_or-zeros zero i = refl
+get_or-zeros (suc n) zero = refl
+get_or-zeros (suc n) (suc i) = get_or-zeros n i
 
 -- what is left of a table from entry i on: the entry, and the rest
 pub drop-next : (l : List ℕ) (i : ℕ) → i < length l → drop i l ≡ get_or l i 0 ∷ drop (i + 1) l

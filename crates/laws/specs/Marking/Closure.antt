@@ -10,7 +10,7 @@ use Rattle.std.proofs.Math.Logic.{⊎_elim}
 use Rattle.rules.specs.Lists.{occ}
 use Rattle.rules.specs.Heap.{slots_of}
 use Rattle.rules.specs.Marking.{mark, mark_if, spread_from, spread, closure, mark_from}
-use Rattle.laws.specs.Lists.Tables.{inside, get_d_zeros, set_cases}
+use Rattle.laws.specs.Lists.Tables.{inside, get_or-zeros, set_cases}
 use Rattle.laws.specs.Lists.Occ.{occ_grows, occ_room}
 use Rattle.laws.specs.Marking.Marks.{Names, Within, Held, Bits, Only, Closed, ClosedMarks}
 
@@ -215,4 +215,4 @@ module _ (slots m table : List ℕ) where
 
 -- no mark at all is settled
 pub zeros_settled : {slots : List ℕ} (n : ℕ) → ClosedMarks slots (replicate n 0)
-zeros_settled n = record { bits = λ d. omega (arith, get_d_zeros n d); closed = λ c d h _. absurd (omega (arith, get_d_zeros n c)) }
+zeros_settled n = record { bits = λ d. omega (arith, get_or-zeros n d); closed = λ c d h _. absurd (omega (arith, get_or-zeros n c)) }

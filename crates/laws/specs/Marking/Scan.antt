@@ -78,7 +78,8 @@ next_law m from h =
     elim (dec_lt (noted_between m from (length m)) (length m)) [
       | yes l ↦ rw (← next_after m a l) (record { within = omega arith; found = λ x. eqb-true (get_or m (noted_between m from (length m)) 0) 2 (a.passes x); none = λ g. absurd (omega arith) })
       | no f ↦ elim (dec_lt (noted_between m 0 from) from) [
-        | yes l ↦ rw (← next_before m a b (omega arith) l) (record { within = omega arith; found = λ _. eqb-true (get_or m (noted_between m 0 from) 0) 2 (b.passes l); none = λ g. absurd (omega arith) })
+        | yes l ↦ rw (← next_before m a b (omega arith) l)
+            (record { within = omega arith; found = λ _. eqb-true (get_or m (noted_between m 0 from) 0) 2 (b.passes l); none = λ g. absurd (omega arith) })
         | no g ↦ rw (← next_none m a b (omega arith) (omega arith)) (record { within = omega arith; found = λ x. absurd (omega arith); none = λ _. none_noted m a (omega arith) b (omega arith) })
       ]
     ]

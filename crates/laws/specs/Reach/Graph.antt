@@ -11,7 +11,7 @@ use Rattle.rules.specs.Heap.{Heap, cells, entries}
 use Rattle.rules.specs.Reach.{Holds, Link, Reached, Exact, Loose, LooseChain, LooseRing}
 use Rattle.rules.specs.Reach.Chain.{root, entry, further}
 use Rattle.rules.specs.Reach.LooseChain.{one, more}
-use Rattle.laws.specs.Lists.Tables.{inside, get_d_zeros}
+use Rattle.laws.specs.Lists.Tables.{inside, get_or-zeros}
 use Rattle.laws.specs.Lists.Occ.{Stands, occ_nil, occ_find, occ_none, occ-set, occ-length, occ_one, occ_other}
 use Rattle.laws.specs.Sound.But.{SoundBut}
 use Rattle.laws.specs.Reach.Used.{link_owner, reached_used}
@@ -61,7 +61,7 @@ module _ (h : Heap) (s : SoundBut h []) where
   loose_ring c l =
       walk (suc (cells h)) (replicate (cells h) 0) c
       (omega (arith, occ-length 0 (replicate (cells h) 0), length-replicate {A = ℕ} (cells h) 0))
-      (length-replicate (cells h) 0) l (λ v n. absurd (n (get_d_zeros (cells h) v)))
+      (length-replicate (cells h) 0) l (λ v n. absurd (n (get_or-zeros (cells h) v)))
 
 -- the first cell of a chain is loose
 ring_loose : (h : Heap) {a b : ℕ} → LooseChain h a b → Loose h a

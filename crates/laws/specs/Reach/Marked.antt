@@ -10,7 +10,7 @@ use Rattle.rules.specs.Heap.{Heap, cells, entries, slots_of}
 use Rattle.rules.specs.Reach.{Link, Chain, Reached}
 use Rattle.rules.specs.Reach.Chain.{root, entry, further}
 use Rattle.rules.specs.Collect.{reached_marks}
-use Rattle.laws.specs.Lists.Tables.{inside, get_d_zeros, slot_entry, slots_most}
+use Rattle.laws.specs.Lists.Tables.{inside, get_or-zeros, slot_entry, slots_most}
 use Rattle.laws.specs.Lists.Occ.{occ_at}
 use Rattle.laws.specs.Sound.But.{SoundBut, referred_used}
 use Rattle.laws.specs.Marking.Marks.{Names, Within, Held, Only, Closed, ClosedMarks}
@@ -72,7 +72,7 @@ module _ (h : Heap) (s : SoundBut h []) where
   unfolding reached_marks
   reached_only =
       closure_least h.slots (replicate (cells h) 0) (h.roots ++ entries h) (chain_closed h.roots (entries h) h.slots)
-      (λ d x. absurd (omega (arith, get_d_zeros (cells h) d)))
+      (λ d x. absurd (omega (arith, get_or-zeros (cells h) d)))
       (λ d n. ⊎_elim (λ r. root r.0 r.1) (λ q. entry q.0 q.1) (names-append h.roots (entries h) d n))
 
   pub reached_held : (c : ℕ) → Reached h c → Held (reached_marks h) c

@@ -60,16 +60,16 @@ pub bit_past : (w i : ℕ) → w < 2 ^ i → bit w i ≡ 0
 unfolding bit
 bit_past w i h = ap (λ (x : ℕ). x % 2) (div-eq_of_lt h)
 
-pub bit_or : (a b i : ℕ) → bit (bit_or a b) i ≡ max (bit a i) (bit b i)
+pub bit_or_lem : (a b i : ℕ) → bit (bit_or a b) i ≡ max (bit a i) (bit b i)
 unfolding bit
-bit_or a b i = ap (λ (x : ℕ). x % 2) (or_shr a b i) ∙ low (a / 2 ^ i) (b / 2 ^ i)
+bit_or_lem a b i = ap (λ (x : ℕ). x % 2) (or_shr a b i) ∙ low (a / 2 ^ i) (b / 2 ^ i)
   where
     low : (x y : ℕ) → bit_or x y % 2 ≡ max (x % 2) (y % 2)
     low x y = ap (λ (z : ℕ). z % 2) (or_step x y) ∙ digits_mod (bit_or (x / 2) (y / 2)) (omega arith)
 
-pub bit_and : (a b i : ℕ) → bit (bit_and a b) i ≡ min (bit a i) (bit b i)
+pub bit_and_lem : (a b i : ℕ) → bit (bit_and a b) i ≡ min (bit a i) (bit b i)
 unfolding bit
-bit_and a b i = ap (λ (x : ℕ). x % 2) (and_shr a b i) ∙ low (a / 2 ^ i) (b / 2 ^ i)
+bit_and_lem a b i = ap (λ (x : ℕ). x % 2) (and_shr a b i) ∙ low (a / 2 ^ i) (b / 2 ^ i)
   where
     low : (x y : ℕ) → bit_and x y % 2 ≡ min (x % 2) (y % 2)
     low x y = ap (λ (z : ℕ). z % 2) (and_step x y) ∙ digits_mod (bit_and (x / 2) (y / 2)) (omega arith)
@@ -174,14 +174,14 @@ pred_above (suc k) w (suc i) h l = bit_suc (w - 1) i ∙ go (pred_above k (w / 2
 
 -- `w & (w - 1)`: the lowest bit that is 1 is cleared
 pub clear_to : (k w i : ℕ) → count_trailing_zeros k w < k → i ≤ count_trailing_zeros k w → bit (bit_and w (w - 1)) i ≡ 0
-clear_to k w i h l = bit_and w (w - 1) i ∙ elim (dec_lt i (count_trailing_zeros k w)) [
+clear_to k w i h l = bit_and_lem w (w - 1) i ∙ elim (dec_lt i (count_trailing_zeros k w)) [
   | yes m ↦ omega (arith, trailing_below k w i m)
   | no f ↦ let e : i ≡ count_trailing_zeros k w = omega arith in omega (arith, ap (bit (w - 1)) e, pred_at k w h)
 ]
 
 -- the bits above it are kept
 pub clear_above : (k w i : ℕ) → count_trailing_zeros k w < k → count_trailing_zeros k w < i → bit (bit_and w (w - 1)) i ≡ bit w i
-clear_above k w i h l = bit_and w (w - 1) i ∙ omega (arith, pred_above k w i h l)
+clear_above k w i h l = bit_and_lem w (w - 1) i ∙ omega (arith, pred_above k w i h l)
 
 -- ---- counts of ones
 
@@ -190,11 +190,11 @@ unfoldable pub bits : ℕ → ℕ → List ℕ
 bits zero w = []
 bits (suc k) w = w % 2 ∷ bits k (w / 2)
 
-pub get_d_bits : (k w i : ℕ) → i < k → get_or (bits k w) i 0 ≡ bit w i
+pub get_or-bits : (k w i : ℕ) → i < k → get_or (bits k w) i 0 ≡ bit w i
 unfolding bits
-get_d_bits zero w i h = absurd (omega arith)
-get_d_bits (suc k) w zero h = sym (bit_low w)
-get_d_bits (suc k) w (suc i) h = get_d_bits k (w / 2) i (omega arith) ∙ sym (bit_suc w i)
+get_or-bits zero w i h = absurd (omega arith)
+get_or-bits (suc k) w zero h = sym (bit_low w)
+get_or-bits (suc k) w (suc i) h = get_or-bits k (w / 2) i (omega arith) ∙ sym (bit_suc w i)
 
 pub length_bits : (k w : ℕ) → length (bits k w) ≡ k
 unfolding bits

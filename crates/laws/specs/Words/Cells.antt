@@ -17,19 +17,19 @@ unfolding tabulate
 length-tabulate f zero = refl
 length-tabulate f (suc n) = length-append (tabulate f n) (f n ∷ []) ∙ ap (λ (k : ℕ). k + 1) (length-tabulate f n) ∙ add-one n
 
-pub get_d_tabulate : (f : ℕ → ℕ) (n c : ℕ) → c < n → get_or (tabulate f n) c 0 ≡ f c
+pub get_or-tabulate : (f : ℕ → ℕ) (n c : ℕ) → c < n → get_or (tabulate f n) c 0 ≡ f c
 unfolding tabulate
-get_d_tabulate f zero c h = absurd (omega arith)
-get_d_tabulate f (suc n) c h = elim (dec_lt c n) [
-  | yes l ↦ get_or-append (tabulate f n) (f n ∷ []) 0 c (omega (arith, length-tabulate f n)) ∙ get_d_tabulate f n c l
+get_or-tabulate f zero c h = absurd (omega arith)
+get_or-tabulate f (suc n) c h = elim (dec_lt c n) [
+  | yes l ↦ get_or-append (tabulate f n) (f n ∷ []) 0 c (omega (arith, length-tabulate f n)) ∙ get_or-tabulate f n c l
   | no g ↦
       let e : c ≡ length (tabulate f n) = omega (arith, length-tabulate f n) in
       let z : c ≡ n = omega arith in
       ap (λ (k : ℕ). get_or (tabulate f n ++ (f n ∷ [])) k 0) e ∙ get_or-append_seam (tabulate f n) (f n) [] 0 ∙ ap f (sym z)
 ]
 
-pub get_d_tabulate_past : (f : ℕ → ℕ) (n c : ℕ) → n ≤ c → get_or (tabulate f n) c 0 ≡ 0
-get_d_tabulate_past f n c h = get_or-eq_default (tabulate f n) 0 {n = c} (omega (arith, length-tabulate f n))
+pub get_or-tabulate_past : (f : ℕ → ℕ) (n c : ℕ) → n ≤ c → get_or (tabulate f n) c 0 ≡ 0
+get_or-tabulate_past f n c h = get_or-eq_default (tabulate f n) 0 {n = c} (omega (arith, length-tabulate f n))
 
 -- ---- the bit of a cell
 
@@ -69,10 +69,10 @@ pub length-bits_of : (n : ℕ) (words : List ℕ) → length (bits_of n words) �
 unfolding bits_of
 length-bits_of n words = length-tabulate (bit_of words) n
 
-pub get_d_bits_of : (n : ℕ) (words : List ℕ) (c : ℕ) → c < n → get_or (bits_of n words) c 0 ≡ bit_of words c
+pub get_or-bits_of : (n : ℕ) (words : List ℕ) (c : ℕ) → c < n → get_or (bits_of n words) c 0 ≡ bit_of words c
 unfolding bits_of
-get_d_bits_of n words c h = get_d_tabulate (bit_of words) n c h
+get_or-bits_of n words c h = get_or-tabulate (bit_of words) n c h
 
-pub get_d_bits_of_past : (n : ℕ) (words : List ℕ) (c : ℕ) → n ≤ c → get_or (bits_of n words) c 0 ≡ 0
+pub get_or-bits_of_past : (n : ℕ) (words : List ℕ) (c : ℕ) → n ≤ c → get_or (bits_of n words) c 0 ≡ 0
 unfolding bits_of
-get_d_bits_of_past n words c h = get_d_tabulate_past (bit_of words) n c h
+get_or-bits_of_past n words c h = get_or-tabulate_past (bit_of words) n c h

@@ -9,8 +9,8 @@ use Rattle.rules.specs.Lists.{occ, tabulate}
 use Rattle.rules.specs.Words.{bit, bit_of, bits_of, is_open, NoBitsFrom, CountsMarks}
 use Rattle.laws.specs.Lists.Tests.{fails}
 use Rattle.laws.specs.Lists.Occ.{occ-append, occ-length, occ_snoc_there, occ_grows}
-use Rattle.laws.specs.Words.Bits.{bits, length_bits, get_d_bits, ones_bits}
-use Rattle.laws.specs.Words.Cells.{bit_of_past, open_is, length-bits_of, get_d_bits_of, get_d_bits_of_past}
+use Rattle.laws.specs.Words.Bits.{bits, length_bits, get_or-bits, ones_bits}
+use Rattle.laws.specs.Words.Cells.{bit_of_past, open_is, length-bits_of, get_or-bits_of, get_or-bits_of_past}
 
 -- no more than the cells
 pub count_le : (n : ℕ) (words : List ℕ) → occ 1 (bits_of n words) ≤ n
@@ -27,13 +27,13 @@ bits_word words j =
     (omega (arith, length-bits_of (64 * j + 64) words, length-append p b, length_bits 64 (get_or words j 0)))
     (λ d l.
     let ld : d < 64 * j + 64 = omega (arith, length-bits_of (64 * j + 64) words) in
-    get_d_bits_of (64 * j + 64) words d ld ∙ elim (dec_lt d (64 * j)) [
-      | yes m ↦ sym (get_or-append p b 0 d (omega arith) ∙ get_d_bits_of (64 * j) words d m)
+    get_or-bits_of (64 * j + 64) words d ld ∙ elim (dec_lt d (64 * j)) [
+      | yes m ↦ sym (get_or-append p b 0 d (omega arith) ∙ get_or-bits_of (64 * j) words d m)
       | no f ↦
           let word : d / 64 ≡ j = omega arith in
           let at : d ≡ length p + d % 64 = omega arith in
           let read : get_or (p ++ b) d 0 ≡ bit (get_or words j 0) (d % 64) =
-          ap (λ (x : ℕ). get_or (p ++ b) x 0) at ∙ get_or-append-add p b (d % 64) 0 ∙ get_d_bits 64 (get_or words j 0) (d % 64) (omega arith) in
+          ap (λ (x : ℕ). get_or (p ++ b) x 0) at ∙ get_or-append-add p b (d % 64) 0 ∙ get_or-bits 64 (get_or words j 0) (d % 64) (omega arith) in
           ap (λ (x : ℕ). bit (get_or words x 0) (d % 64)) word ∙ sym read
     ])
 
@@ -69,11 +69,11 @@ all_marked marks used e kept same c = fails (is_open used marks c) (λ o.
     let inside : c < m = elim (dec_lt c m) [ yes l ↦ l | no f ↦ absurd (omega (arith, bit_of_past used c (omega arith))) ] in
     let keeps : (d : ℕ) → get_or (bits_of n marks) d 0 ≡ 1 → get_or (bits_of m used) d 0 ≡ 1 =
     λ d z. elim (dec_lt d n) [
-      | yes l ↦ get_d_bits_of m used d (omega arith) ∙ kept d (sym (get_d_bits_of n marks d l) ∙ z)
-      | no f ↦ absurd (omega (arith, get_d_bits_of_past n marks d (omega arith)))
+      | yes l ↦ get_or-bits_of m used d (omega arith) ∙ kept d (sym (get_or-bits_of n marks d l) ∙ z)
+      | no f ↦ absurd (omega (arith, get_or-bits_of_past n marks d (omega arith)))
     ] in
     let more =
     occ_grows 1 (bits_of n marks) (bits_of m used) (omega (arith, length-bits_of n marks, length-bits_of m used)) keeps c
-    (omega (arith, length-bits_of n marks)) (λ z. omega (arith, get_d_bits_of n marks c (omega arith)))
-    (get_d_bits_of m used c inside ∙ found.0) in
+    (omega (arith, length-bits_of n marks)) (λ z. omega (arith, get_or-bits_of n marks c (omega arith)))
+    (get_or-bits_of m used c inside ∙ found.0) in
     omega (arith, more))

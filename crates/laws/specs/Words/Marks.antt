@@ -12,13 +12,13 @@ use Rattle.std.proofs.Math.ListN.{get_or, length-take, get_or-eq_default}
 use Rattle.std.proofs.lemmas.List.{length-replicate}
 use Rattle.rules.specs.Depth.{to_mark, noted_between}
 use Rattle.rules.specs.Words.{bit, bit_of, marked_of, noted_of, mark_of, marks_of, bits_of, is_open, next_open, NoBitsFrom}
-use Rattle.laws.specs.Lists.Tables.{get_d_zeros}
+use Rattle.laws.specs.Lists.Tables.{get_or-zeros}
 use Rattle.laws.specs.Marking.Marks.{Bits}
 use Rattle.laws.specs.Marking.Steps.{mark_test}
 use Rattle.laws.specs.Lists.Tests.{and_no}
 use Rattle.laws.specs.Words.Search.{first_law, first_only, lowest_same, open_law}
 use Rattle.laws.specs.Words.Bits.{bit_none}
-use Rattle.laws.specs.Words.Cells.{length-tabulate, get_d_tabulate, length-bits_of, get_d_bits_of, bit_of_le}
+use Rattle.laws.specs.Words.Cells.{length-tabulate, get_or-tabulate, length-bits_of, get_or-bits_of, bit_of_le}
 
 -- words for the marks of n cells: both halves have a bit for each of them, and no other bit is set
 pub record WordsFor (n : ℕ) (words : List ℕ) : Type 0 where
@@ -37,9 +37,9 @@ pub length_marks : (n : ℕ) (words : List ℕ) → length (marks_of n words) �
 unfolding marks_of
 length_marks n words = length-tabulate (mark_of words) n
 
-pub get_d_marks : (n : ℕ) (words : List ℕ) (c : ℕ) → c < n → get_or (marks_of n words) c 0 ≡ mark_of words c
+pub get_or-marks : (n : ℕ) (words : List ℕ) (c : ℕ) → c < n → get_or (marks_of n words) c 0 ≡ mark_of words c
 unfolding marks_of
-get_d_marks n words c h = get_d_tabulate (mark_of words) n c h
+get_or-marks n words c h = get_or-tabulate (mark_of words) n c h
 
 pub length_marked : (words : List ℕ) → length (marked_of words) ≡ length words / 2
 length_marked words = length-take (length words / 2) words ∙ omega arith
@@ -100,12 +100,12 @@ module _ (words : List ℕ) (c : ℕ) where
 pub test_reference : (n : ℕ) (words : List ℕ) (r : ℕ) → (r ≡ 0 → ⊥) → r ≤ n → r ≤ 64 * (length words / 2)
     → eqb (get_or words ((r - 1) / 64) 0 / 2 ^ ((r - 1) % 64) % 2) 0 ≡ to_mark (marks_of n words) r
 test_reference n words r some h room =
-    bit_test words (r - 1) (omega arith) ∙ ap (λ (x : ℕ). not (eqb x 1)) (sym (get_d_marks n words (r - 1) (omega arith))) ∙ mark_test (marks_of n words) r some
+    bit_test words (r - 1) (omega arith) ∙ ap (λ (x : ℕ). not (eqb x 1)) (sym (get_or-marks n words (r - 1) (omega arith))) ∙ mark_test (marks_of n words) r some
 
 -- ---- words that are all zero: every cell is unmarked
 
 zero_bit : (k j i : ℕ) → bit (get_or {A = ℕ} (replicate k 0) j 0) i ≡ 0
-zero_bit k j i = ap (λ (w : ℕ). bit w i) (get_d_zeros k j) ∙ bit_none i
+zero_bit k j i = ap (λ (w : ℕ). bit w i) (get_or-zeros k j) ∙ bit_none i
 
 mark_zeros : (k c : ℕ) → mark_of (replicate k 0) c ≡ 0
 mark_zeros k c =
@@ -119,7 +119,7 @@ mark_zeros k c =
 pub marks_zeros : (n k : ℕ) → marks_of n (replicate k 0) ≡ replicate n 0
 marks_zeros n k =
     ext_get_or 0 (marks_of n (replicate k 0)) (replicate n 0) (length_marks n (replicate k 0) ∙ sym (length-replicate n 0)) (λ d l.
-    get_d_marks n (replicate k 0) d (omega (arith, length_marks n (replicate k 0))) ∙ mark_zeros k d ∙ sym (get_d_zeros n d))
+    get_or-marks n (replicate k 0) d (omega (arith, length_marks n (replicate k 0))) ∙ mark_zeros k d ∙ sym (get_or-zeros n d))
 
 pub words_zeros : (n k : ℕ) → 0 < n → n ≤ 64 * (k / 2) → WordsFor n (replicate k 0)
 words_zeros n k some room = record { some = some; room = omega (arith, length-replicate {A = ℕ} k 0); spare = λ c l. mark_zeros k c }
@@ -131,8 +131,8 @@ module _ (n : ℕ) (words m : List ℕ) (p : HasMarks n words m) where
   marked_bits b =
       ext_get_or 0 (bits_of n (marked_of words)) m (length-bits_of n (marked_of words) ∙ sym (ap length (sym p.marks) ∙ length_marks n words)) (λ d l.
       let ld : d < n = omega (arith, length-bits_of n (marked_of words)) in
-      let is : mark_of words d ≡ get_or m d 0 = sym (get_d_marks n words d ld) ∙ ap (λ (x : List ℕ). get_or x d 0) p.marks in
-      get_d_bits_of n (marked_of words) d ld ∙ plain d is (b d))
+      let is : mark_of words d ≡ get_or m d 0 = sym (get_or-marks n words d ld) ∙ ap (λ (x : List ℕ). get_or x d 0) p.marks in
+      get_or-bits_of n (marked_of words) d ld ∙ plain d is (b d))
     where
       plain : (d : ℕ) {v : ℕ} → mark_of words d ≡ v → v ≤ 1 → bit_of (marked_of words) d ≡ v
       plain d e l = elim (ℕ_discrete (bit_of (marked_of words) d) 1) [
@@ -167,5 +167,5 @@ pub next_noted_word : (n : ℕ) (words : List ℕ) (lo : ℕ) → lo ≤ n → n
 unfolding noted_between
 next_noted_word n words lo h =
     let same : (c : ℕ) → c < n → is_open (noted_of words) (marked_of words) c ≡ eqb (get_or (marks_of n words) c 0) 2 =
-    λ c l. open_noted words c ∙ ap (λ (x : ℕ). eqb x 2) (sym (get_d_marks n words c l)) in
+    λ c l. open_noted words c ∙ ap (λ (x : ℕ). eqb x 2) (sym (get_or-marks n words c l)) in
     first_only (lowest_same same (open_law (noted_of words) (marked_of words) lo n h)) (first_law (λ c. eqb (get_or (marks_of n words) c 0) 2) lo n h)

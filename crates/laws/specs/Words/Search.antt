@@ -6,7 +6,7 @@ use Rattle.std.proofs.Common.{arith, sym, ap, ◌∙◌}
 use Rattle.rules.specs.Depth.{first_from}
 use Rattle.rules.specs.Words.{bit_of, bits_of, is_open, next_open, UsedBits, LowestFrom, FindsLowest}
 use Rattle.laws.specs.Lists.Tests.{clash}
-use Rattle.laws.specs.Words.Cells.{get_d_bits_of}
+use Rattle.laws.specs.Words.Cells.{get_or-bits_of}
 
 -- that there is none says no more than the rest
 pub lowest_from : {p : ℕ → Bool} {from n r : ℕ} → (from ≤ r) × (r ≤ n) → (r < n → p r ≡ true) → ((d : ℕ) → from ≤ d → d < r → p d ≡ false)
@@ -68,7 +68,7 @@ pub open_unmarked : (kind used marks : List ℕ) → UsedBits kind used → (c :
 unfolding is_open
 open_unmarked kind used marks u c h =
     let bit : eqb (bit_of used c) 1 ≡ not (eqb (get_or kind c 0) 0) = ap (λ (x : ℕ). eqb x 1) (u c) ∙ used_test (eqb (get_or kind c 0) 0) in
-    let mark : eqb (bit_of marks c) 0 ≡ eqb (get_or (bits_of (length kind) marks) c 0) 0 = ap (λ (x : ℕ). eqb x 0) (sym (get_d_bits_of (length kind) marks c h)) in
+    let mark : eqb (bit_of marks c) 0 ≡ eqb (get_or (bits_of (length kind) marks) c 0) 0 = ap (λ (x : ℕ). eqb x 0) (sym (get_or-bits_of (length kind) marks c h)) in
     λ i. bit i && mark i
 
 pub finds_lowest : FindsLowest

@@ -6,9 +6,9 @@ use Rattle.std.proofs.Math.Decide.{ℕ_discrete, dec_lt}
 use Rattle.std.proofs.Math.Path.{ap}
 use Rattle.std.specs.Int.Bits.{bit_or}
 use Rattle.rules.specs.Words.{bit, bit_of, marked_of, noted_of, mark_of, marks_of}
-use Rattle.laws.specs.Words.Bits.{bit_le, bit_or, bit_power, bit_power_other, one_shl}
+use Rattle.laws.specs.Words.Bits.{bit_le, bit_or_lem, bit_power, bit_power_other, one_shl}
 use Rattle.laws.specs.Words.Cells.{bit_of_le}
-use Rattle.laws.specs.Words.Marks.{WordsFor, HasMarks, length_marks, get_d_marks, marked_bit, marked_past, noted_bit, mark_set, mark_clear}
+use Rattle.laws.specs.Words.Marks.{WordsFor, HasMarks, length_marks, get_or-marks, marked_bit, marked_past, noted_bit, mark_set, mark_clear}
 
 -- bit i of word j is set
 abbrev pub or_bit : List ℕ → ℕ → ℕ → List ℕ
@@ -16,7 +16,7 @@ or_bit words j i = set words j (bit_or (get_or words j 0) ((1 * 2 ^ i) % 2 ^ 64)
 
 module _ (words : List ℕ) (j i : ℕ) (word : j < length words) (low : i < 64) where
   or_word : (k : ℕ) → bit (get_or (or_bit words j i) j 0) k ≡ max (bit (get_or words j 0) k) (bit (2 ^ i) k)
-  or_word k = rw (get_or-set_same words j (bit_or (get_or words j 0) ((1 * 2 ^ i) % 2 ^ 64)) 0 word, one_shl i low) (bit_or (get_or words j 0) (2 ^ i) k)
+  or_word k = rw (get_or-set_same words j (bit_or (get_or words j 0) ((1 * 2 ^ i) % 2 ^ 64)) 0 word, one_shl i low) (bit_or_lem (get_or words j 0) (2 ^ i) k)
 
   or_here : bit (get_or (or_bit words j i) j 0) i ≡ 1
   or_here = omega (arith, or_word i, bit_le (get_or words j 0) i, bit_power i)
@@ -38,9 +38,9 @@ marks_set : (n : ℕ) (words words' : List ℕ) (c v : ℕ) → c < n → mark_o
 marks_set n words words' c v h here there =
     ext_get_or 0 (marks_of n words') (set (marks_of n words) c v) (length_marks n words' ∙ sym (length-set (marks_of n words) c v ∙ length_marks n words)) (λ d l.
     let ld : d < n = omega (arith, length_marks n words') in
-    get_d_marks n words' d ld ∙ elim (ℕ_discrete d c) [
+    get_or-marks n words' d ld ∙ elim (ℕ_discrete d c) [
       | yes e ↦ rw e (here ∙ sym (get_or-set_same (marks_of n words) c v 0 (omega (arith, length_marks n words))))
-      | no f ↦ there d f ∙ sym (get_d_marks n words d ld) ∙ sym (get_or-set_other (marks_of n words) c d v 0 f)
+      | no f ↦ there d f ∙ sym (get_or-marks n words d ld) ∙ sym (get_or-set_other (marks_of n words) c d v 0 f)
     ])
 
 -- cell c has words in both halves; its bit is set in word j, which is in the first half or the second
@@ -114,4 +114,4 @@ module _ (n : ℕ) (words : List ℕ) (c : ℕ) (w : WordsFor n words) (h : c < 
 
   pub has_noted : (get_or (marks_of n words) c 0 ≡ 1 → ⊥) → HasMarks n (or_bit words (length words / 2 + c / 64) (c % 64)) (set (marks_of n words) c 2)
   unfolding second
-  has_noted f = has_set (second words c has_word) 2 (second_here words c has_word (λ e. f (get_d_marks n words c h ∙ e))) (second_there words c has_word)
+  has_noted f = has_set (second words c has_word) 2 (second_here words c has_word (λ e. f (get_or-marks n words c h ∙ e))) (second_there words c has_word)

@@ -1,0 +1,6 @@
+// CSV input lines of four numbers, read a byte at a time, and output lines.
+#![tactic(auto)]
+
+pub mod number;
+pub mod reader;
+pub mod render;

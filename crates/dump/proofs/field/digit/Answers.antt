@@ -1,0 +1,14 @@
+-- `dump::field::digit` meets its contract: the sixth digit and a value above 65,535 spoil the heap, any other digit is taken up. Assumes nothing.
+use native.Mathlib.Omega.{arith}
+use mathlib.Core.Path.{sym, ◌∙◌}
+use Rattle.dump.proofs.Cases.{sixth_digit, large_value, next_digit}
+use Rattle.dump.proofs.field.digit.Goals as goal
+
+pub returns-then-digits-ge-DIGITS_MAX : goal.returns-then-digits-ge-DIGITS_MAX
+returns-then-digits-ge-DIGITS_MAX c = c.spoil.ensures ∙ sym (sixth_digit _ _ (omega arith))
+
+pub returns-then-value-gt-VALUE_MAX : goal.returns-then-value-gt-VALUE_MAX
+returns-then-value-gt-VALUE_MAX c = c.spoil-then-value-gt-VALUE_MAX.ensures ∙ sym (large_value _ _ (omega arith))
+
+pub returns : goal.returns
+returns c = next_digit _ _ _ _ (omega arith) (omega arith) (omega arith) (omega arith)
