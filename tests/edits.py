@@ -193,6 +193,13 @@ def said_of(names, texts, crate, copies):
     return said
 
 
+def of_shape(reason, keeps):
+    """What is said of the code's shape: why an edit changes it, and what is wrong with the edit's own words on it."""
+    if keeps:
+        return " AND THE SHAPE IS KEPT, though the line 'shape:' says otherwise" if reason else ""
+    return f" ({reason})" if reason else " AND NOTHING SAYS WHY"
+
+
 def weighed(name, edit, named, refused, whole, error):
     """The outcome of an edit that was refused: of which kind, for each of the functions `named` or as a whole, and for each contract that it
     goes against. Where the public function itself is proved, a private one that it rests on is refused in its place."""
@@ -201,8 +208,7 @@ def weighed(name, edit, named, refused, whole, error):
     private = [kind for function, kind in refused.items() if function not in contracts.public()]
     against = {contract: refused.get(contract) or refusals.weakest(private) for contract in edit.against}
     keeps = refusals.SHAPE not in kinds.values()
-    why = f" ({edit.shape})" if edit.shape else "" if keeps else " AND NOTHING SAYS WHY"
-    return Outcome(name, keeps == (edit.shape is None), f"{words}{why}: {error[:140]}", list(kinds.values()), against)
+    return Outcome(name, keeps == (edit.shape is None), f"{words}{of_shape(edit.shape, keeps)}: {error[:140]}", list(kinds.values()), against)
 
 
 def weighed_whole(name, edit, named, said):
@@ -395,6 +401,9 @@ def main():
     verdicts = [*itertools.chain.from_iterable(faults(*edit) for edit in written), *judged(wanted, outcomes)]
     for words in filter(None, (words for _, words in verdicts)):
         print(words)
+    for outcome in outcomes:
+        if outcome.passed is False:
+            print(f"failed: {outcome.name}: {outcome.words}")
     kinds = collections.Counter(kind for outcome in outcomes for kind in outcome.kinds)
     for kind in (*refusals.KINDS, refusals.SHAPE):
         print(f"{kind}: {kinds[kind]}")
