@@ -256,7 +256,7 @@ fn run<R: Read, W: Write>(rt: &impl Eprint, input: &mut R, output: &mut W) -> io
     Ok(())
 }
 
-// The header, the lines and the totals: where it is known what there is to read, what is written is the report over its heaps.
+// The header, the lines and the totals: of a run without an error what is written is the report over the heaps of what there is to read, where that is known.
 fn program<R: Read, W: Write>(rt: &impl Eprint, input: &mut R, output: &mut W) -> io::Result<()>
     ensures { OnOk result (IfSome (R.remaining input.old) (λ bytes. length bytes < u64.MAX →
         Appends (W.contents output.old) (W.contents output.new) (report_text (map whole (heaps_of bytes))))) }

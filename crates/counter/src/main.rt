@@ -173,7 +173,7 @@ fn run<R: Read, W: Write>(input: &mut R, output: &mut W) -> io::Result<()>
     Ok(())
 }
 
-// The header, and then the answers to all that is read: where it is known what there is to read, it is known what is written.
+// The header, and then the answers to all that is read: of a run without an error it is known what is written, where it is known what there is to read.
 fn program<R: Read, W: Write>(input: &mut R, output: &mut W) -> io::Result<()>
     ensures { OnOk result (IfSome (R.remaining input.old) (λ bytes. length bytes < u64.MAX →
         Appends (W.contents output.old) (W.contents output.new) (output_for bytes))) }

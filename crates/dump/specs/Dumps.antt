@@ -1,5 +1,5 @@
 -- Document 02, Q-4: heaps that come as text. What an input says, heap by heap: seven lines each, one for each table, in the order kind, flags, count, slots,
--- roots, queue, control. Lines, fields and numbers are those of the crate csv.
+-- roots, queue, control. Lines, fields and numbers are those of the crate csv_text.
 -- Assumes nothing: these are definitions.
 use Rattle.std.specs.Prelude.{ℕ, List, [], ◌∷◌, ◌++◌, map, cond, eqb, length, get_or, replicate}
 use Rattle.csv_text.specs.Lines.{all, lines_of, fields_of, value_of, is_number}
