@@ -9,10 +9,18 @@ TOP = pathlib.Path(__file__).resolve().parent.parent
 SECTION = "### What would notice a statement gone weak"
 
 
+LAWFUL = re.compile(r"impl.* for .*\{\s+ghost ")
+
+
 def in_file(path):
-    """The public functions of one file that ensure something, by their full names."""
+    """The public functions of one file that ensure something, by their full names. A trait's functions for a type are public too, and the type
+    says in ghost lines before them what they ensure."""
+    lawful = False
     for name, text in functions.pieces(path):
-        if name and functions.PUBLIC.match(text) and re.search(r"\bensures\b", text[:functions.body_at(text)]):
+        if not text.startswith(" "):
+            lawful = bool(LAWFUL.match(text))
+        ensures = functions.PUBLIC.match(text) and re.search(r"\bensures\b", text[:functions.body_at(text)])
+        if name and (lawful or ensures):
             yield name
 
 

@@ -5,9 +5,9 @@ import re
 
 CRATES = pathlib.Path(__file__).resolve().parent.parent / "crates"
 # What a piece of a source file begins with: a function, a type's functions, or something that is none. A trait's functions for a type have
-# the names of both before their own.
+# the names of both before their own: the type's with a capital, and the trait's with that of the type that it is given.
 PIECE = re.compile(
-    r'^(?:impl(?:<.*?>)? (?:(\w+)(?:<.*?>)? for )?(\w+)(?:<.*?>)? (?:where .*)?\{'
+    r'^(?:impl(?:<.*?>)? (?:(\w+)(?:<(.*?)>)? for )?(\w+)(?:<.*?>)? (?:where .*)?\{'
     r'|( *)(?:pub(?:\(\w+\))? )?(?:const )?(?:extern "C" )?fn (\w+)'
     r"|(?:pub )?(?:ghost )?(?:const|struct|enum|trait|type|use|mod) )", re.M)
 PUBLIC = re.compile(r" *pub (?!\()")
@@ -26,9 +26,9 @@ def pieces(path):
     text, type_name = path.read_text(), ""
     matches = list(PIECE.finditer(text))
     for match, end in zip(matches, [*(m.start() for m in matches[1:]), len(text)]):
-        trait, own, indent, name = match.groups()
+        trait, given, own, indent, name = match.groups()
         if own:
-            type_name = f"{own}{trait or ''}::"
+            type_name = f"{own[0].upper()}{own[1:]}{trait}{given or ''}::" if trait else f"{own}::"
         yield name and prefix_of(path) + (type_name if indent else "") + name, text[match.start():end]
 
 

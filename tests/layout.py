@@ -21,7 +21,7 @@ PLACES = [
     r"crates\.txt",
     r"\.git(ignore|attributes)",
     r"\.ci/run",
-    r"docs/[A-Z]+\.md",
+    r"docs/[A-Z-]+\.md",
     r"docs/changes/Q-\d\d\.md",
     r"tests/[a-z_]+\.(py|c)",
     r"tests/edits/[a-z_]+/[a-z0-9_]+\.edit",

@@ -21,7 +21,7 @@ WIDTH = 200
 TEXT = r'"(?:\\.|[^"\\])*"'
 WORD = r'[^\s(){}.;,@"«»]+'
 USE = re.compile(r"^(?:unfoldable )?(pub )?(?:ghost )?use ([^\s{};]+?)(?:(\.|::)\{([^}]*)\}| as (\S+?))?;?$", re.M)
-CLAUSE = re.compile(r"\b(?:requires|ensures)\*?(?: \w+)? \{")
+CLAUSE = re.compile(r"\b(?:requires|ensures)\*?(?: \w+)? \{|\bghost \w+ = \{")
 # The line that begins a definition: marks, a name or several, a colon. A clause has none before its `=`.
 MARKS = r"( *)(?:(?:unfoldable|abbrev|pub|axiom) )*"
 NAMES = rf"(?!let |\| )({WORD}(?: (?!= ){WORD})*?)(?: \{{[^}}=:]*\}})?"
@@ -46,7 +46,7 @@ def parts(name):
 
 
 def clauses(code):
-    """Where the contracts of a source stand: from each clause's opening brace to the one that closes it."""
+    """Where the contracts of a source stand, and its ghost members: from each one's opening brace to the one that closes it."""
     for match in CLAUSE.finditer(code):
         end, depth = match.end(), 1
         while depth:

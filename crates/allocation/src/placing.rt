@@ -1,53 +1,41 @@
 // NEW: the lowest free cell is placed in an empty root.
+// `as` narrows here what is known to fit: a TryFrom would leave a way out that is never taken.
 ghost use Rattle.std.specs.Prelude.{List, ◌≡◌, ℕ, ◌<◌, length};
 ghost use Rattle.numbers.specs.Numbers.{AsCell};
-ghost use Rattle.rules.specs.Heap.{tables};
+ghost use Rattle.rules.specs.Tables.{lent, SameTables};
 ghost use Rattle.rules.specs.Sound.{Ready};
 ghost use Rattle.rules.specs.Calls.{answers};
+ghost use Rattle.rules.specs.Refused.{answer_of};
 ghost use Rattle.rules.specs.Refusals.{lowest_free};
 ghost use Rattle.rules.specs.Refusals.Call.{NEW};
 ghost use Rattle.laws.specs.Calls.Inner.{Ran};
 ghost use Rattle.allocation.specs.Places.{Placed, Placeable};
 
-use crate::shape::{Shape, ShapeNumbers};
-use answers::refuse;
-use numbers::cell::{Cell, CellNumber};
-use numbers::root::{Root, RootNumber};
-use rules::{Answer, DONE, FULL, NUMBER, TAKEN};
+use crate::shape::Shape;
+use numbers::{Cell, Root};
+use rules::refusal::Refusal;
+use rules::tables::TablesMut;
+use rules::{Answer, DONE};
 
 // The lowest free cell, if one is free.
-fn lowest_free(kind: &[u16]) -> CellNumber
+fn lowest_free(kind: &[u16]) -> Option<Cell>
     ensures { AsCell (lowest_free kind.now) (length kind.now) result }
 {
-    let mut c = 0;
-    while c < kind.len() {
-        if kind[c] == 0 {
-            return Cell::of(c, kind.len());
-        }
-        c += 1;
-    }
-    CellNumber::Not
+    let free = kind.iter().position(|k| *k == 0)?;
+    Cell::of(free, kind.len())
 }
 
 // A free cell comes into use with count 1, held by a root.
-fn place(
-    kind: &mut [u16],
-    flags: &mut [u16],
-    count: &mut [u16],
-    roots: &mut [u16],
-    cell: Cell,
-    to: Root,
-    shape: Shape,
-)
-    requires { Placeable kind.old flags.old count.old roots.old cell.0 to.0 }
-    ensures { Placed kind.old flags.old count.old roots.old cell.0 to.0 shape
-        kind.new flags.new count.new roots.new }
+fn place(tables: &mut TablesMut, cell: Cell, to: Root, shape: Shape)
+    requires { Placeable (lent tables.old) cell.0 to.0 }
+    ensures same { SameTables tables.old tables.new }
+    ensures placed { Placed (lent tables.old) cell.0 to.0 shape (lent tables.new) }
 {
     let c = cell.index();
-    kind[c] = shape.kind();
-    flags[c] = shape.flags();
-    count[c] = 1;
-    roots[to.index()] = cell.reference();
+    tables.kind[c] = shape.kind();
+    tables.flags[c] = shape.flags();
+    tables.count[c] = 1;
+    tables.roots[to.index()] = cell.reference();
 }
 
 // The answer of a NEW done.
@@ -65,34 +53,21 @@ fn made(cell: Cell) -> Answer
 
 // NEW on a sound heap: the lowest free cell, with count 1, is placed in an empty root.
 pub fn new(
-    kind: &mut [u16],
-    flags: &mut [u16],
-    count: &mut [u16],
-    slots: &[u16],
-    roots: &mut [u16],
-    queue: &[u16],
-    control: &[u16],
+    tables: &mut TablesMut,
     root: usize,
     wanted: usize,
     finalizer: usize,
-) -> Answer
-    requires { Ready (tables kind.old flags.old count.old slots.now roots.old queue.now control.now) }
-    ensures { (room : List ℕ) → Ran (NEW root wanted finalizer)
-        (tables kind.old flags.old count.old slots.now roots.old queue.now control.now) room
-        (tables kind.new flags.new count.new slots.now roots.new queue.now control.now) room result }
+) -> Result<Answer, Refusal>
+    requires { Ready (lent tables.old) }
+    ensures same { SameTables tables.old tables.new }
+    ensures ran { (room : List ℕ) → Ran (NEW root wanted finalizer) (lent tables.old) room (lent tables.new) room (answer_of result) }
 {
-    let RootNumber::Is(to) = Root::of(root) else {
-        return refuse(NUMBER);
-    };
-    let ShapeNumbers::Is(shape) = Shape::of(wanted, finalizer) else {
-        return refuse(NUMBER);
-    };
-    if roots[to.index()] != 0 {
-        return refuse(TAKEN);
+    let to = Root::of(root).ok_or(Refusal::Number)?;
+    let shape = Shape::of(wanted, finalizer).ok_or(Refusal::Number)?;
+    if tables.roots[to.index()] != 0 {
+        return Err(Refusal::Taken);
     }
-    let CellNumber::Is(cell) = lowest_free(kind) else {
-        return refuse(FULL);
-    };
-    place(kind, flags, count, roots, cell, to, shape);
-    made(cell)
+    let cell = lowest_free(tables.shared().kind).ok_or(Refusal::Full)?;
+    place(tables, cell, to, shape);
+    Ok(made(cell))
 }

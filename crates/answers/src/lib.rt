@@ -1,9 +1,12 @@
-// The answers of calls, but for NEW's: of a refusal, and of a call that is done.
+// The answers of calls: of a refusal, and of a call that is done. NEW and COLLECT make their own.
+// `as` narrows here what is known to fit: a TryFrom would leave a way out that is never taken.
 #![tactic(auto)]
 
 ghost use Rattle.std.specs.Prelude.{◌≡◌, ◌<◌};
 ghost use Rattle.rules.specs.Calls.{answers};
+ghost use Rattle.rules.specs.Refused.{number_of, answer_of};
 
+use rules::refusal::Refusal;
 use rules::{Answer, DONE};
 
 // Nothing freed, nothing queued, no cell made.
@@ -19,10 +22,17 @@ fn bare_answer(refused: u16) -> Answer
 }
 
 // The answer of a call that is refused.
-pub fn refuse(why: u16) -> Answer
-    ensures { result ≡ answers why 0 0 0 }
+pub fn refuse(why: Refusal) -> Answer
+    ensures { result ≡ answers (number_of why) 0 0 0 }
 {
-    bare_answer(why)
+    bare_answer(why.into())
+}
+
+// The answer of a call that was done, or refused.
+pub fn answered(call: Result<Answer, Refusal>) -> Answer
+    ensures { result ≡ answer_of call }
+{
+    call.unwrap_or_else(refuse)
 }
 
 // The answer of a call that is done, and has freed, queued and made nothing.

@@ -1,13 +1,13 @@
 -- The ways out of the audit: the report refuses the heap, takes it as SIZE, or takes its row.
 -- Assumes nothing.
-use Prim.Native.Nat.{ℕ, ◌<◌}
+use Prim.Native.Nat.{ℕ}
 use native.Mathlib.Omega.{arith}
 use mathlib.Core.Bool.{true, false}
 use mathlib.Core.List.{List}
 use mathlib.Core.Path.{◌≡◌, refl, sym, ap, ◌∙◌}
 use lib.Dec.{eqb}
 use lib.IntN.{ℤ}
-use lib.ListN.{length, get_or}
+use lib.ListN.{length}
 use borrow.Author.Tests.{eqb-true, eq-eqb, ne_eqb}
 use Rattle.rules.specs.Lists.{dangling}
 use Rattle.rules.specs.Heap.{Heap, cells}
@@ -73,7 +73,7 @@ module _ (h : Heap) (before : List ℤ) (a : admitted (lent h before) ≡ true) 
   same : length h.count ≡ cells h
   same = (fits_sized h fit).count
 
-  pub lengths : Lengths before h.count h.slots h.roots h.queue
+  pub lengths : Lengths before h
   lengths =
       let z = fits_sized h fit in
       let room = eqb-true (length before) (cells h) (and_right (fits h) (eqb (length before) (cells h)) a) in
@@ -85,12 +85,12 @@ module _ (h : Heap) (before : List ℤ) (a : admitted (lent h before) ≡ true) 
         queue_size = omega (arith, z.queue, same);
       }
 
-  module _ {after : List ℤ} {row : Row} (w : CellsAudited h.count (references h) after row) where
+  module _ {after : List ℤ} {row : Row} (w : CellsAudited h after row) where
     pub row_fits : row ≡ fitting_row h
     row_fits = w.row ∙ ap (λ (k : ℕ). plus (row_to (difference h) k) (lost_row (dangling k (references h)))) same
 
     pub table_fits : after ≡ differences h
     table_fits = w.table ∙ ap (listed (difference h)) same
 
-    pub row_small : ((c : ℕ) → get_or h.count c 0 < 65536) → Small row
-    row_small b = rw row_fits (heap_small h (fits_sized h fit) b)
+    pub row_small : Small row
+    row_small = rw row_fits (heap_small h (fits_sized h fit) w.sixteen)

@@ -6,35 +6,22 @@ mod possible;
 mod reports;
 
 ghost use Rattle.std.specs.Prelude.{◌≡◌, length};
-ghost use Rattle.rules.specs.Heap.{tables};
+ghost use Rattle.rules.specs.Tables.{heap_of};
 ghost use Rattle.rules.specs.Audit.{size_row, admitted, audited, differences_after};
 
+use rules::DONE;
 use rules::audit::{Audited, Report, Row};
-use rules::{DONE, SIZE};
+use rules::refusal::Refusal;
+use rules::tables::Tables;
 
-// Do the tables fit, and is the table of differences as long as the heap's own?
-fn admitted(
-    kind: &[u16],
-    flags: &[u16],
-    count: &[u16],
-    slots: &[u16],
-    roots: &[u16],
-    queue: &[u16],
-    control: &[u16],
-    room: usize,
-) -> bool
+// Do the tables fit, and is the table of differences as long as the heap's own? That comes first: the other way round `vek_audit` passes its bar of stack.
+fn admitted(tables: Tables, room: usize) -> bool
     ensures { result ≡ admitted (record {
-      heap = tables kind.now flags.now count.now slots.now roots.now queue.now control.now;
+      heap = heap_of tables.entry;
       room = room;
     }) }
 {
-    if !soundness::fits(kind, flags, count, slots, roots, queue, control) {
-        return false;
-    }
-    if room != kind.len() {
-        return false;
-    }
-    true
+    room == tables.kind.len() && soundness::fits(tables)
 }
 
 // The row of a heap that is refused SIZE: it is counted apart, and adds nothing else.
@@ -42,43 +29,25 @@ fn size_row() -> Row
     ensures { result ≡ size_row }
 {
     Row {
-        below: 0,
-        at: 0,
-        above: 0,
-        sum: 0,
-        lost: 0,
         size: 1,
+        ..Row::default()
     }
 }
 
 // Audits a report's next heap: writes each cell's difference, and answers the heap's row and the report with it. MANY and TOTAL come before SIZE, and change nothing.
-pub fn audit(
-    kind: &[u16],
-    flags: &[u16],
-    count: &[u16],
-    slots: &[u16],
-    roots: &[u16],
-    queue: &[u16],
-    control: &[u16],
-    differences: &mut [i32],
-    report: Report,
-) -> Audited
+pub fn audit(tables: Tables, differences: &mut [i32], report: Report) -> Audited
     ensures value { result ≡ audited report (record {
-      heap = tables kind.now flags.now count.now slots.now roots.now queue.now control.now;
+      heap = heap_of tables.entry;
       room = length differences.old;
     }) }
-    ensures differences_after { differences.new ≡ differences_after report
-        (tables kind.now flags.now count.now slots.now roots.now queue.now control.now)
-        differences.old }
+    ensures differences_after { differences.new ≡ differences_after report (heap_of tables.entry) differences.old }
 {
-    let refused = reports::refusal(report);
-    if refused != DONE {
-        return reports::refuse(refused, report);
+    if let Err(why) = reports::refusal(report) {
+        return reports::refuse(why, report);
     }
-    let room = differences.len();
-    if !admitted(kind, flags, count, slots, roots, queue, control, room) {
-        return reports::take(SIZE, size_row(), report);
+    if !admitted(tables, differences.len()) {
+        return reports::take(Refusal::Size.into(), size_row(), report);
     }
-    let row = cells::audit_cells(differences, count, slots, roots, queue);
+    let row = cells::audit_cells(differences, tables);
     reports::take(DONE, row, report)
 }

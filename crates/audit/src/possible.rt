@@ -5,7 +5,7 @@ ghost use Rattle.audit.specs.Clauses.{cells_fit, lost_fits, sum_fits};
 
 use rules::audit::{Report, Row};
 
-// Can k heaps have so many cells? The tests of the three columns keep their sum from passing its end.
+// Can k heaps have so many cells? `k` stands apart from the row: heaps refused SIZE are not among them. The tests of the three columns keep their sum from passing its end.
 fn cells_fit(k: u64, row: Row) -> bool
     requires { k ≤ 1000 }
     ensures { result ≡ cells_fit k row }
@@ -44,7 +44,7 @@ fn lost_fits(references: u64, row: Row) -> bool
     true
 }
 
-// Can the sum be that of such cells? It is what is too much in the cells above, less what is missing in those below.
+// Can the sum be that of such cells? It is what is too much in the cells above, less what is missing in those below. Each test has its reason above it.
 fn sum_fits(k: u64, references: u64, row: Row) -> bool
     requires { (k ≤ 1000) × (references ≤ 10000000) × (row_cells row ≤ 1024000) × (row.lost ≤ 10000000) }
     ensures { result ≡ sum_fits k references row }

@@ -3,41 +3,34 @@ ghost use Rattle.std.specs.Prelude.{◌≡◌, ◌+ℤ◌};
 ghost use Rattle.std.specs.Int.{w64};
 ghost use Rattle.std.proofs.Common.{SFits};
 ghost use Rattle.rules.specs.Audit.{none, plus, refusal_of, with};
+ghost use Rattle.rules.specs.Refused.{number_of, refused};
 ghost use Rattle.audit.specs.Bounds.{Small};
 
 use crate::possible;
 use rules::audit::{Audited, HEAPS_MAX, Report, Row};
-use rules::{DONE, MANY, TOTAL};
+use rules::refusal::Refusal;
 
-// DONE, MANY or TOTAL: whether a report takes another heap.
-pub fn refusal(report: Report) -> u16
-    ensures { result ≡ refusal_of report }
+// MANY or TOTAL where a report takes no other heap.
+pub fn refusal(report: Report) -> Result<(), Refusal>
+    ensures { refused result ≡ refusal_of report }
 {
     if HEAPS_MAX <= report.heaps {
-        return MANY;
+        return Err(Refusal::Many);
     }
     if !possible::possible(report) {
-        return TOTAL;
+        return Err(Refusal::Total);
     }
-    DONE
+    Ok(())
 }
 
 // The answer where the report refuses the heap, which adds nothing.
-pub fn refuse(refused: u16, report: Report) -> Audited
-    ensures { result ≡ record { refused = refused; heap = none; report = report } }
+pub fn refuse(why: Refusal, report: Report) -> Audited
+    ensures { result ≡ record { refused = number_of why; heap = none; report = report } }
 {
-    let heap = Row {
-        below: 0,
-        at: 0,
-        above: 0,
-        sum: 0,
-        lost: 0,
-        size: 0,
-    };
     Audited {
-        refused: refused,
-        heap: heap,
-        report: report,
+        refused: why.into(),
+        heap: Row::default(),
+        report,
     }
 }
 

@@ -18,9 +18,9 @@ use Rattle.dump.specs.Reading.{State, start_state, fed, closed, heap_given, out,
 use Rattle.dump.specs.Holding.{Holds, Ready, Steps}
 use Rattle.dump.proofs.Cutting.{given_more, given_heap, out_none, out_heap}
 use Rattle.auditor.specs.declared.Progress.{Progress}
-use Rattle.auditor.specs.declared.Served.TheVariants.{More}
+use Rattle.auditor.specs.declared.Room.{Room}
 use Rattle.auditor.specs.Output.{whole}
-use Rattle.auditor.specs.Taking.{Took, Advanced, Ended, Begun}
+use Rattle.auditor.specs.Taking.{In, Took, Advanced, Ended, Begun}
 use Rattle.auditor.specs.Written.{HeapTold, TookWith, Told, LeftTold, LastTold, text_by}
 use Rattle.auditor.proofs.Printing.{wrote_front}
 
@@ -32,6 +32,10 @@ if_ok_both (Err e) f p q = tt
 -- another reader, with the same report
 abbrev pub onward : Progress → Reader → Progress
 onward p r = record { reader = r; report = p.report; many = p.many }
+
+-- the same room, with other arrays for the reader
+abbrev pub turned : Room → List ℕ → List ℕ → Room
+turned a entries ends = record { entries = entries; ends = ends; differences = a.differences; out = a.out }
 
 -- ---- a step of the reader
 
@@ -47,10 +51,10 @@ module _ {step : State → State} {r : Reader} {entries ends : List ℕ} {r' : R
 
 -- ---- a byte
 
-module _ (p : Progress) (b : ℕ) {entries ends : List ℕ} {r' : Reader} {entries' ends' : List ℕ} (w : Steps (λ s. fed s b) p.reader entries ends r' entries' ends') where
+-- it took the arrays of the room a to those of m
+module _ (p : Progress) (b : ℕ) (a m : Room) {r' : Reader} (w : Steps (λ s. fed s b) p.reader a.entries a.ends r' m.entries m.ends) where
   -- the heap goes on
-  pub byte_more : (q : Progress) (old : Option (List ℕ)) → q.reader ≡ r' → q.report ≡ p.report → Ready q.reader entries' ends'
-      → Told p entries ends (b ∷ []) q entries' ends' old old
+  pub byte_more : (q : Progress) (old : Option (List ℕ)) → q.reader ≡ r' → q.report ≡ p.report → Ready q.reader m.entries m.ends → Told p a (b ∷ []) q m old old
   unfolding report_from lines_from
   byte_more q old e f y =
       record {
@@ -67,24 +71,24 @@ module _ (p : Progress) (b : ℕ) {entries ends : List ℕ} {r' : Reader} {entri
             };
       }
 
-  -- a heap is complete, the report takes it, and its lines are written
-  pub byte_heap : (n q : Progress) (old new : Option (List ℕ)) → n.reader ≡ r' → n.report ≡ p.report → 7 ≤ r'.tables → length entries' ≡ 12354 → length ends' ≡ 7
-      → Begun n entries' ends' q → HeapTold n entries' ends' old new → Told p entries ends (b ∷ []) q entries' ends' old new
+  -- a heap is complete, the report takes it, and its lines are written; what the arrays hold then is of no matter
+  pub byte_heap : (n q : Progress) (c : Room) (old new : Option (List ℕ)) → n.reader ≡ r' → n.report ≡ p.report → 7 ≤ r'.tables
+      → length c.entries ≡ 12354 → length c.ends ≡ 7 → Begun n m q → HeapTold n m old new → Told p a (b ∷ []) q c old new
   unfolding report_from lines_from
-  byte_heap n q old new e f m le ln g x =
+  byte_heap n q c old new e f full le ln g x =
       record {
         ready = record { room = le; marks = ln; unfinished = omega (arith, g.starts.none) };
         text = x.text;
         written = x.written;
         took = λ s h.
-            let held : Holds (fed s b) n.reader entries' ends' = rw e (w.holds s h) in
+            let held : In (fed s b) n.reader m = rw e (w.holds s h) in
             let heap : Heap = heap_given (fed s b) in
             record {
               state = start_state;
-              holds = g.starts.holds entries' ends';
+              holds = g.starts.holds c.entries c.ends;
               took = record {
                 heaps = heap ∷ [];
-                read = λ rest. given_heap s (fed s b) b rest refl (finished w s h m);
+                read = λ rest. given_heap s (fed s b) b rest refl (finished w s h full);
                 report = g.report (fed s b) held ∙ ap (λ (y : Report). (audited y (whole heap)).report) f;
               };
               lines =
@@ -99,46 +103,46 @@ given_nothing : (s : State) → given s [] ≡ out (closed s)
 unfolding given within after
 given_nothing s = refl
 
-module _ (p : Progress) {entries ends : List ℕ} {r' : Reader} {entries' ends' : List ℕ} (w : Steps closed p.reader entries ends r' entries' ends') where
-  pub end_none : (q : Progress) → q.report ≡ p.report → r'.tables < 7 → Ended p entries ends (More q)
+module _ (p : Progress) (a m : Room) {r' : Reader} (w : Steps closed p.reader a.entries a.ends r' m.entries m.ends) where
+  pub end_none : (q : Progress) → q.report ≡ p.report → r'.tables < 7 → Ended p a q
   unfolding report_from
-  end_none q f m = λ s h. f ∙ sym (ap (λ (hs : List Heap). report_from p.report (map whole hs)) (given_nothing s ∙ out_none (closed s) (unfinished w s h m)))
+  end_none q f few = λ s h. f ∙ sym (ap (λ (hs : List Heap). report_from p.report (map whole hs)) (given_nothing s ∙ out_none (closed s) (unfinished w s h few)))
 
-  pub end_heap : (n q : Progress) → n.reader ≡ r' → n.report ≡ p.report → 7 ≤ r'.tables → Begun n entries' ends' q → Ended p entries ends (More q)
+  pub end_heap : (n q : Progress) → n.reader ≡ r' → n.report ≡ p.report → 7 ≤ r'.tables → Begun n m q → Ended p a q
   unfolding report_from
-  end_heap n q e f m g = λ s h.
-      let held : Holds (closed s) n.reader entries' ends' = rw e (w.holds s h) in
+  end_heap n q e f full g = λ s h.
+      let held : In (closed s) n.reader m = rw e (w.holds s h) in
       g.report (closed s) held
       ∙ ap (λ (x : Report). (audited x (whole (heap_given (closed s)))).report) f
-      ∙ sym (ap (λ (hs : List Heap). report_from p.report (map whole hs)) (given_nothing s ∙ out_heap (closed s) (finished w s h m)))
+      ∙ sym (ap (λ (hs : List Heap). report_from p.report (map whole hs)) (given_nothing s ∙ out_heap (closed s) (finished w s h full)))
 
   -- and what is written
-  pub left_none : (old : Option (List ℕ)) → r'.tables < 7 → LeftTold p entries ends old old
+  pub left_none : (old : Option (List ℕ)) → r'.tables < 7 → LeftTold p a old old
   unfolding lines_from
-  left_none old m = record {
+  left_none old few = record {
     text = [];
     written = Appends-nil old;
-    lines = λ s h. sym (ap (λ (hs : List Heap). lines_from p.report (map whole hs)) (given_nothing s ∙ out_none (closed s) (unfinished w s h m)));
+    lines = λ s h. sym (ap (λ (hs : List Heap). lines_from p.report (map whole hs)) (given_nothing s ∙ out_none (closed s) (unfinished w s h few)));
   }
 
-  pub left_heap : (n : Progress) (old new : Option (List ℕ)) → n.reader ≡ r' → n.report ≡ p.report → 7 ≤ r'.tables → HeapTold n entries' ends' old new
-      → LeftTold p entries ends old new
+  pub left_heap : (n : Progress) (old new : Option (List ℕ)) → n.reader ≡ r' → n.report ≡ p.report → 7 ≤ r'.tables → HeapTold n m old new
+      → LeftTold p a old new
   unfolding lines_from
-  left_heap n old new e f m x = record {
+  left_heap n old new e f full x = record {
     text = x.text;
     written = x.written;
     lines = λ s h.
-        let held : Holds (closed s) n.reader entries' ends' = rw e (w.holds s h) in
+        let held : In (closed s) n.reader m = rw e (w.holds s h) in
         let heap : Heap = heap_given (closed s) in
         x.lines (closed s) held ∙ ap (λ (y : Report). lines_for y (whole heap)) f
         ∙ sym (append-nil (lines_for p.report (whole heap)))
-        ∙ sym (ap (λ (hs : List Heap). lines_from p.report (map whole hs)) (given_nothing s ∙ out_heap (closed s) (finished w s h m)));
+        ∙ sym (ap (λ (hs : List Heap). lines_from p.report (map whole hs)) (given_nothing s ∙ out_heap (closed s) (finished w s h full)));
   }
 
 -- behind that the totals
-pub last_told : (p q : Progress) (entries ends before after : List ℕ) (r : ℕ) (old mid new : Option (List ℕ)) → LeftTold p entries ends old mid → Ended p entries ends (More q)
-    → TotalsWritten q.report.totals before after r → 129 ≤ length before → length after ≡ length before → Appends mid new (take r after) → LastTold p entries ends old new
-last_told p q entries ends before after r old mid new x y z room same w =
+pub last_told : (p q : Progress) (a : Room) (before after : List ℕ) (r : ℕ) (old mid new : Option (List ℕ)) → LeftTold p a old mid → Ended p a q
+    → TotalsWritten q.report.totals before after r → 129 ≤ length before → length after ≡ length before → Appends mid new (take r after) → LastTold p a old new
+last_told p q a before after r old mid new x y z room same w =
     let totals : take r after ≡ totals_line q.report.totals = wrote_front before (totals_line q.report.totals) after r (z.done room) z.fits same in
     record {
       text = x.text ++ totals_line q.report.totals;
@@ -180,14 +184,14 @@ text_append p gs hs =
     ∙ ap (λ (r : Report). (lines_from p (map whole gs) ++ lines_from q (map whole hs)) ++ totals_line r.totals) (reports_append p gs hs)
     ∙ append_assoc (lines_from p (map whole gs)) (lines_from q (map whole hs)) (totals_line (report_from q (map whole hs)).totals)
 
-pub with_none : (s : State) (r : Report) (q : Progress) (entries ends : List ℕ) → q.report ≡ r → Holds s q.reader entries ends → TookWith s r [] q entries ends []
+pub with_none : (s : State) (r : Report) (q : Progress) (a : Room) → q.report ≡ r → In s q.reader a → TookWith s r [] q a []
 unfolding report_from lines_from
-with_none s r q entries ends e h = record { state = s; holds = h; took = record { heaps = []; read = λ rest. refl; report = e }; lines = refl }
+with_none s r q a e h = record { state = s; holds = h; took = record { heaps = []; read = λ rest. refl; report = e }; lines = refl }
 
-pub with_more : (s : State) (p : Report) (a : List ℕ) (q : Progress) (e n x : List ℕ) (b : List ℕ) (t : Progress) (e' n' : List ℕ) (old new : Option (List ℕ))
-    → TookWith s p a q e n x → (y : Told q e n b t e' n' old new) → TookWith s p (a ++ b) t e' n' (x ++ y.text)
+pub with_more : (s : State) (p : Report) (a : List ℕ) (q : Progress) (m : Room) (x b : List ℕ) (t : Progress) (n : Room) (old new : Option (List ℕ))
+    → TookWith s p a q m x → (y : Told q m b t n old new) → TookWith s p (a ++ b) t n (x ++ y.text)
 unfolding took_more
-with_more s p a q e n x b t e' n' old new one y =
+with_more s p a q m x b t n old new one y =
     let two = y.took one.state one.holds in
     record {
       state = two.state;
@@ -199,21 +203,21 @@ with_more s p a q e n x b t e' n' old new one y =
           ∙ sym (lines_append p one.took.heaps two.took.heaps);
     }
 
-pub told_none : (p : Progress) (entries ends : List ℕ) (old : Option (List ℕ)) → Ready p.reader entries ends → Told p entries ends [] p entries ends old old
-told_none p entries ends old y = record { ready = y; text = []; written = Appends-nil old; took = λ s h. with_none s p.report p entries ends refl h }
+pub told_none : (p : Progress) (l : Room) (old : Option (List ℕ)) → Ready p.reader l.entries l.ends → Told p l [] p l old old
+told_none p l old y = record { ready = y; text = []; written = Appends-nil old; took = λ s h. with_none s p.report p l refl h }
 
-pub told_more : (p q t : Progress) (e n a e' n' b e'' n'' : List ℕ) (old mid new : Option (List ℕ)) → Told p e n a q e' n' old mid → Told q e' n' b t e'' n'' mid new
-    → Told p e n (a ++ b) t e'' n'' old new
-told_more p q t e n a e' n' b e'' n'' old mid new x y = record {
+pub told_more : (p q t : Progress) (l : Room) (a : List ℕ) (m : Room) (b : List ℕ) (n : Room) (old mid new : Option (List ℕ)) → Told p l a q m old mid → Told q m b t n mid new
+    → Told p l (a ++ b) t n old new
+told_more p q t l a m b n old mid new x y = record {
   ready = y.ready;
   text = x.text ++ y.text;
   written = Appends-trans old mid new x.text y.text x.written y.written;
-  took = λ s h. with_more s p.report a q e' n' x.text b t e'' n'' mid new (x.took s h) y;
+  took = λ s h. with_more s p.report a q m x.text b t n mid new (x.took s h) y;
 }
 
 -- what was told says what was taken
-pub told_advanced : (p q : Progress) (e n a e' n' : List ℕ) (old new : Option (List ℕ)) → Told p e n a q e' n' old new → Advanced p e n a q e' n'
-told_advanced p q e n a e' n' old new x = record {
+pub told_advanced : (p q : Progress) (l : Room) (a : List ℕ) (m : Room) (old new : Option (List ℕ)) → Told p l a q m old new → Advanced p l a q m
+told_advanced p q l a m old new x = record {
   ready = x.ready;
   took = λ s h. let t = x.took s h in record { state = t.state; holds = t.holds; took = t.took };
 }
@@ -226,7 +230,7 @@ one_byte_more bytes i h =
     ap (λ (k : ℕ). take k bytes) same ∙ take-suc bytes i 0 h
 
 -- the first i bytes are taken
-pub told_byte : (p q t : Progress) (e n bytes : List ℕ) (i : ℕ) (e' n' e'' n'' : List ℕ) (old mid new : Option (List ℕ)) → Told p e n (take i bytes) q e' n' old mid
-    → i < length bytes → Told q e' n' (get_or bytes i 0 ∷ []) t e'' n'' mid new → Told p e n (take (i + 1) bytes) t e'' n'' old new
-told_byte p q t e n bytes i e' n' e'' n'' old mid new x h y =
-    rw (one_byte_more bytes i h) (told_more p q t e n (take i bytes) e' n' (get_or bytes i 0 ∷ []) e'' n'' old mid new x y)
+pub told_byte : (p q t : Progress) (l : Room) (bytes : List ℕ) (i : ℕ) (m n : Room) (old mid new : Option (List ℕ)) → Told p l (take i bytes) q m old mid
+    → i < length bytes → Told q m (get_or bytes i 0 ∷ []) t n mid new → Told p l (take (i + 1) bytes) t n old new
+told_byte p q t l bytes i m n old mid new x h y =
+    rw (one_byte_more bytes i h) (told_more p q t l (take i bytes) m (get_or bytes i 0 ∷ []) n old mid new x y)

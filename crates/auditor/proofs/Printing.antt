@@ -19,6 +19,7 @@ use Rattle.report.specs.declared.piece.Piece.{Piece}
 use Rattle.report.specs.Pieces.{text_from, PieceWritten}
 use Rattle.dump.specs.Reading.{heap_given}
 use Rattle.auditor.specs.declared.Progress.{Progress}
+use Rattle.auditor.specs.declared.Room.{Room}
 use Rattle.auditor.specs.Output.{whole}
 use Rattle.auditor.specs.Taking.{CellsOf, HeapAudited}
 use Rattle.auditor.specs.Written.{DifferencesOf, lines_of, HeapTold}
@@ -100,9 +101,9 @@ prints_all a d e = rw e refl
 
 -- ---- the heap that the arrays hold
 
-pub heap_told : (p : Progress) (entries ends : List ℕ) (a : Audited) (n : ℕ) (d : List ℤ) (old new : Option (List ℕ)) → HeapAudited p.reader entries ends p.report a
-    → DifferencesOf p.reader entries ends a d → CellsOf p.reader entries ends n → Appends old new (lines_of a (take n d)) → HeapTold p entries ends old new
-heap_told p entries ends a n d old new is diffs cs w = record {
+pub heap_told : (p : Progress) (l : Room) (a : Audited) (n : ℕ) (d : List ℤ) (old new : Option (List ℕ)) → HeapAudited p.reader l.entries l.ends p.report a
+    → DifferencesOf p.reader l.entries l.ends a d → CellsOf p.reader l.entries l.ends n → Appends old new (lines_of a (take n d)) → HeapTold p l old new
+heap_told p l a n d old new is diffs cs w = record {
   text = lines_of a (take n d);
   written = w;
   lines = λ s h.

@@ -1,6 +1,6 @@
 -- What some bytes of the input did to the reader, the arrays and the report. What was read and written stands in `Written`.
 -- Assumes nothing: these are definitions.
-use Rattle.std.specs.Prelude.{ℕ, ◌≤◌, ◌≡◌, List, [], ◌++◌, map}
+use Rattle.std.specs.Prelude.{ℕ, ◌≤◌, ◌≡◌, List, [], ◌++◌, map, Option, IfSome}
 use Rattle.rules.specs.declared.audit.Report.{Report}
 use Rattle.rules.specs.declared.audit.Audited.{Audited}
 use Rattle.rules.specs.Heap.{Heap, cells}
@@ -9,15 +9,18 @@ use Rattle.dump.specs.declared.reader.Reader.{Reader}
 use Rattle.dump.specs.Reading.{State, heap_given, given}
 use Rattle.dump.specs.Holding.{Holds, Ready, Starts}
 use Rattle.auditor.specs.declared.Progress.{Progress}
-use Rattle.auditor.specs.declared.Served.{Served}
-use Rattle.auditor.specs.declared.Served.TheVariants.{More, Over}
+use Rattle.auditor.specs.declared.Room.{Room}
 use Rattle.auditor.specs.Output.{whole}
 
+-- the reader and the arrays hold the state s
+abbrev pub In : State → Reader → Room → Type 0
+In s r a = Holds s r a.entries a.ends
+
 -- between two bytes: the reader and the arrays hold some state, and there is room for the largest heap
-pub record Held (r : Reader) (entries ends : List ℕ) : Type 0 where
-  pub ready : Ready r entries ends
+pub record Held (r : Reader) (a : Room) : Type 0 where
+  pub ready : Ready r a.entries a.ends
   pub state : State
-  pub holds : Holds state r entries ends
+  pub holds : In state r a
 
 -- the complete heap has so many cells, or more than there may be
 pub record CellsOf (r : Reader) (entries ends : List ℕ) (n : ℕ) : Type 0 where
@@ -36,34 +39,25 @@ pub record Took (s : State) (p : Report) (bytes : List ℕ) (t : State) (q : Rep
   pub report : q ≡ report_from p (map whole heaps)
 
 -- the same, of the reader and the arrays that hold them
-pub record TookTo (s : State) (p : Report) (bytes : List ℕ) (q : Progress) (entries ends : List ℕ) : Type 0 where
+pub record TookTo (s : State) (p : Report) (bytes : List ℕ) (q : Progress) (a : Room) : Type 0 where
   pub state : State
-  pub holds : Holds state q.reader entries ends
+  pub holds : In state q.reader a
   pub took : Took s p bytes state q.report
 
-pub record Advanced (p : Progress) (entries ends bytes : List ℕ) (q : Progress) (entries' ends' : List ℕ) : Type 0 where
-  pub ready : Ready q.reader entries' ends'
-  pub took : (s : State) → Holds s p.reader entries ends → TookTo s p.report bytes q entries' ends'
-
-abbrev pub Taken : Progress → List ℕ → List ℕ → List ℕ → Served → List ℕ → List ℕ → Type 0
-Taken p entries ends bytes (More q) entries' ends' = Advanced p entries ends bytes q entries' ends'
-Taken p entries ends bytes Over entries' ends' = Unit
+pub record Advanced (p : Progress) (a : Room) (bytes : List ℕ) (q : Progress) (b : Room) : Type 0 where
+  pub ready : Ready q.reader b.entries b.ends
+  pub took : (s : State) → In s p.reader a → TookTo s p.report bytes q b
 
 -- the input has ended: the report has taken every heap that was left
-abbrev pub Ended : Progress → List ℕ → List ℕ → Served → Type 0
-Ended p entries ends (More q) = (s : State) → Holds s p.reader entries ends → q.report ≡ report_from p.report (map whole (given s []))
-Ended p entries ends Over = Unit
+abbrev pub Ended : Progress → Room → Progress → Type 0
+Ended p a q = (s : State) → In s p.reader a → q.report ≡ report_from p.report (map whole (given s []))
 
 -- a complete heap was taken into the report, and the next begins
-pub record Begun (p : Progress) (entries ends : List ℕ) (q : Progress) : Type 0 where
+pub record Begun (p : Progress) (a : Room) (q : Progress) : Type 0 where
   pub starts : Starts q.reader
-  pub report : (s : State) → Holds s p.reader entries ends → q.report ≡ (audited p.report (whole (heap_given s))).report
-
-abbrev pub HeapServed : Progress → List ℕ → List ℕ → Served → Type 0
-HeapServed p entries ends (More q) = Begun p entries ends q
-HeapServed p entries ends Over = Unit
+  pub report : (s : State) → In s p.reader a → q.report ≡ (audited p.report (whole (heap_given s))).report
 
 -- after a read: some bytes were taken, if the run goes on
-pub record TakenSome (p : Progress) (entries ends : List ℕ) (r : Served) (entries' ends' : List ℕ) : Type 0 where
+pub record TakenSome (p : Progress) (a : Room) (r : Option Progress) (b : Room) : Type 0 where
   pub bytes : List ℕ
-  pub taken : Taken p entries ends bytes r entries' ends'
+  pub taken : IfSome r (λ q. Advanced p a bytes q b)

@@ -8,6 +8,7 @@ use dump::reader::Reader;
 use dump::table::table;
 use rules::CELLS_MAX;
 use rules::audit::{Audited, Report};
+use rules::tables::Tables;
 
 // How many differences the complete heap has, one for each cell. One with more cells than there is room for is SIZE anyhow.
 pub(crate) fn cells(reader: Reader, entries: &[u16], ends: &[usize]) -> usize
@@ -35,15 +36,14 @@ pub(crate) fn audit_heap(
     ensures differences { DifferencesOf reader entries.now ends.now result differences.new }
 {
     let n = cells(reader, entries, ends);
-    audit::audit(
-        table(reader, entries, ends, 0),
-        table(reader, entries, ends, 1),
-        table(reader, entries, ends, 2),
-        table(reader, entries, ends, 3),
-        table(reader, entries, ends, 4),
-        table(reader, entries, ends, 5),
-        table(reader, entries, ends, 6),
-        &mut differences[..n],
-        report,
-    )
+    let tables = Tables {
+        kind: table(reader, entries, ends, 0),
+        flags: table(reader, entries, ends, 1),
+        count: table(reader, entries, ends, 2),
+        slots: table(reader, entries, ends, 3),
+        roots: table(reader, entries, ends, 4),
+        queue: table(reader, entries, ends, 5),
+        control: table(reader, entries, ends, 6),
+    };
+    audit::audit(tables, &mut differences[..n], report)
 }

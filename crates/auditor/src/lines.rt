@@ -6,21 +6,20 @@ ghost use Rattle.auditor.specs.Written.{lines_of};
 
 use report::write_piece;
 use rules::audit::{Audited, Row};
-use rules::{MANY, SIZE};
+use rules::refusal::Refusal;
 use std::io;
 use std::io::Write;
 use streams::write;
 
-// Says once that the report takes no more heaps. Answers whether that was said by now.
+// Says once that the report takes no more heaps. Answers whether that was said by now. `refused` is a number, as the audit answers it to C.
 pub fn tell(rt: &impl Eprint, refused: u16, said: bool) -> bool {
-    if said {
-        return true;
+    let many = refused == u16::from(Refusal::Many);
+    if many && !said {
+        let _ = rt.eprintln(
+            "MANY: the report has a thousand heaps; those that follow have no line",
+        );
     }
-    if refused != MANY {
-        return false;
-    }
-    let _ = rt.eprintln("MANY: the report has a thousand heaps; those that follow have no line");
-    true
+    said || many
 }
 
 // The lines of a heap with these differences, piece by piece.
@@ -34,6 +33,7 @@ fn print_lines<W: Write>(
     requires { 4160 ≤ length out.old }
     ensures { OnOk result (Appends (W.contents output.old) (W.contents output.new) (text_from heap row differences.now 0)) }
 {
+    // Each piece says where the next begins, so no range is known before.
     let mut first = 0;
     while first <= differences.len() {
         let piece = write_piece(out, heap, row, differences, first);
@@ -56,10 +56,11 @@ pub fn print<W: Write>(
 {
     let report = answer.report;
     let row = answer.heap;
-    if SIZE < answer.refused {
+    let size = u16::from(Refusal::Size);
+    if size < answer.refused {
         return Ok(());
     }
-    if answer.refused == SIZE {
+    if answer.refused == size {
         return print_lines(report.heaps, row, &differences[..0], out, output);
     }
     print_lines(report.heaps, row, differences, out, output)

@@ -5,15 +5,14 @@
 // there that the report takes no more heaps.
 #![tactic(auto)]
 
-ghost use Rattle.std.specs.Prelude.{◌≤◌, ◌<◌, ◌≡◌, [], ◌∷◌, length, map, IfOk, IfSome, OnOk};
+ghost use Rattle.std.specs.Prelude.{◌<◌, ◌≡◌, [], ◌∷◌, length, map, IfOk, IfSome, OnOk};
 ghost use Rattle.std.specs.Io.KnownBytes.{Appends};
-ghost use Rattle.rules.specs.Audit.{empty};
 ghost use Rattle.rules.specs.AuditReport.{report_text};
 ghost use Rattle.dump.specs.Dumps.{heaps_of};
 ghost use Rattle.dump.specs.Holding.{Complete};
 ghost use Rattle.dump.specs.Reading.{given, start_state};
 ghost use Rattle.auditor.specs.Output.{whole};
-ghost use Rattle.auditor.specs.Taking.{Held, HeapServed, Taken, TakenSome, Ended};
+ghost use Rattle.auditor.specs.Taking.{Held, Begun, Advanced, TakenSome, Ended};
 ghost use Rattle.auditor.specs.Written.{HeapTold, LastTold, LeftTold, StepTold, Told, text_for};
 
 mod heap;
@@ -24,12 +23,13 @@ use heap::{audit_heap, cells};
 use lines::{print, tell};
 use report::{PIECE, header, write_totals};
 use rules::CELLS_MAX;
-use rules::audit::{Report, Row};
+use rules::audit::Report;
 use std::io;
 use std::io::{Read, Write};
 use streams::{read_buffer, write};
 
-// Between two bytes: the reader to go on with, the report so far, and whether it was said that it takes no more heaps.
+// Between two bytes: the reader to go on with, the report so far, and whether it was said that it takes no more heaps. The report does not show that:
+// it is the same before and after the first heap that it refuses.
 #[derive(Clone, Copy)]
 struct Progress {
     reader: Reader,
@@ -37,38 +37,43 @@ struct Progress {
     many: bool,
 }
 
-// After some bytes: how to go on, or the run is over.
+// The program's memory, made once: the tables of the heap that is read, the differences of its cells, and the lines that go out next.
 #[derive(Drop)]
-enum Served {
-    More(Progress),
-    Over,
+struct Room {
+    entries: [u16; ENTRIES_MAX],
+    ends: [usize; TABLES],
+    differences: [i32; CELLS_MAX],
+    out: [u8; PIECE],
 }
 
 // The heap is complete: it is audited, and its lines are written.
 fn serve<W: Write>(
     rt: &impl Eprint,
     p: Progress,
-    entries: &[u16],
-    ends: &[usize],
-    differences: &mut [i32],
-    out: &mut [u8],
+    room: &mut Room,
     output: &mut W,
 ) -> io::Result<Progress>
-    requires complete { Complete p.reader entries.now ends.now }
-    requires differences_len { (length differences.old ≡ 1024) × (4160 ≤ length out.old) }
-    ensures taken { IfOk result (λ q. HeapServed p entries.now ends.now (Served.More q)) }
-    ensures told { OnOk result (HeapTold p entries.now ends.now (W.contents output.old) (W.contents output.new)) }
+    requires complete { Complete p.reader room.old.entries room.old.ends }
+    ensures taken { IfOk result (Begun p room.old) }
+    ensures told { OnOk result (HeapTold p room.old (W.contents output.old) (W.contents output.new)) }
+    ensures kept { (room.new.entries ≡ room.old.entries) × (room.new.ends ≡ room.old.ends) }
 {
     let reader = p.reader;
-    let answer = audit_heap(reader, entries, ends, differences, p.report);
-    let n = cells(reader, entries, ends);
-    print(answer, &differences[..n], out, output)?;
+    let answer = audit_heap(
+        reader,
+        &room.entries,
+        &room.ends,
+        &mut room.differences,
+        p.report,
+    );
+    let n = cells(reader, &room.entries, &room.ends);
+    print(answer, &room.differences[..n], &mut room.out, output)?;
     let many = tell(rt, answer.refused, p.many);
     let report = answer.report;
     Ok(Progress {
         reader: start(),
-        report: report,
-        many: many,
+        report,
+        many,
     })
 }
 
@@ -77,29 +82,20 @@ fn take_byte<W: Write>(
     rt: &impl Eprint,
     p: Progress,
     byte: u8,
-    entries: &mut [u16],
-    ends: &mut [usize],
-    differences: &mut [i32],
-    out: &mut [u8],
+    room: &mut Room,
     output: &mut W,
 ) -> io::Result<Progress>
-    requires held { Held p.reader entries.old ends.old }
-    requires differences_len { (length differences.old ≡ 1024) × (4160 ≤ length out.old) }
-    ensures taken { IfOk result (λ q. Taken p entries.old ends.old (byte ∷ []) (Served.More q) entries.new ends.new) }
-    ensures told { IfOk result (λ q. Told p entries.old ends.old (byte ∷ []) q entries.new ends.new
+    requires held { Held p.reader room.old }
+    ensures taken { IfOk result (λ q. Advanced p room.old (byte ∷ []) q room.new) }
+    ensures told { IfOk result (λ q. Told p room.old (byte ∷ []) q room.new
         (W.contents output.old) (W.contents output.new)) }
 {
-    let reader = feed(p.reader, byte, entries, ends);
-    let report = p.report;
-    let next = Progress {
-        reader: reader,
-        report: report,
-        many: p.many,
-    };
+    let reader = feed(p.reader, byte, &mut room.entries, &mut room.ends);
+    let next = Progress { reader, ..p };
     if reader.tables < TABLES {
         return Ok(next);
     }
-    serve(rt, next, entries, ends, differences, out, output)
+    serve(rt, next, room, output)
 }
 
 // Bytes of the input, one by one.
@@ -107,23 +103,17 @@ fn take<W: Write>(
     rt: &impl Eprint,
     first: Progress,
     bytes: &[u8],
-    entries: &mut [u16],
-    ends: &mut [usize],
-    differences: &mut [i32],
-    out: &mut [u8],
+    room: &mut Room,
     output: &mut W,
 ) -> io::Result<Progress>
-    requires held { Held first.reader entries.old ends.old }
-    requires differences_len { (length differences.old ≡ 1024) × (4160 ≤ length out.old) }
-    ensures taken { IfOk result (λ q. Taken first entries.old ends.old bytes.now (Served.More q) entries.new ends.new) }
-    ensures told { IfOk result (λ q. Told first entries.old ends.old bytes.now q entries.new ends.new
+    requires held { Held first.reader room.old }
+    ensures taken { IfOk result (λ q. Advanced first room.old bytes.now q room.new) }
+    ensures told { IfOk result (λ q. Told first room.old bytes.now q room.new
         (W.contents output.old) (W.contents output.new)) }
 {
     let mut p = first;
-    let mut i = 0;
-    while i < bytes.len() {
-        p = take_byte(rt, p, bytes[i], entries, ends, differences, out, output)?;
-        i += 1;
+    for &byte in bytes {
+        p = take_byte(rt, p, byte, room, output)?;
     }
     Ok(p)
 }
@@ -132,95 +122,55 @@ fn take<W: Write>(
 fn finish<W: Write>(
     rt: &impl Eprint,
     p: Progress,
-    entries: &mut [u16],
-    ends: &mut [usize],
-    differences: &mut [i32],
-    out: &mut [u8],
+    room: &mut Room,
     output: &mut W,
 ) -> io::Result<Progress>
-    requires held { Held p.reader entries.old ends.old }
-    requires differences_len { (length differences.old ≡ 1024) × (4160 ≤ length out.old) }
-    ensures taken { IfOk result (λ q. Ended p entries.old ends.old (Served.More q)) }
-    ensures told { OnOk result (LeftTold p entries.old ends.old (W.contents output.old) (W.contents output.new)) }
+    requires held { Held p.reader room.old }
+    ensures taken { IfOk result (Ended p room.old) }
+    ensures told { OnOk result (LeftTold p room.old (W.contents output.old) (W.contents output.new)) }
 {
-    let reader = end(p.reader, entries, ends);
-    let report = p.report;
-    let last = Progress {
-        reader: reader,
-        report: report,
-        many: p.many,
-    };
+    let reader = end(p.reader, &mut room.entries, &mut room.ends);
+    let last = Progress { reader, ..p };
     if reader.tables < TABLES {
         return Ok(last);
     }
-    serve(rt, last, entries, ends, differences, out, output)
+    serve(rt, last, room, output)
 }
 
 // The last line.
-fn close<W: Write>(
-    rt: &impl Eprint,
-    p: Progress,
-    entries: &mut [u16],
-    ends: &mut [usize],
-    differences: &mut [i32],
-    out: &mut [u8],
-    output: &mut W,
-) -> io::Result<()>
-    requires held { Held p.reader entries.old ends.old }
-    requires differences_len { (length differences.old ≡ 1024) × (4160 ≤ length out.old) }
-    ensures { OnOk result (LastTold p entries.old ends.old (W.contents output.old) (W.contents output.new)) }
+fn close<W: Write>(rt: &impl Eprint, p: Progress, room: &mut Room, output: &mut W) -> io::Result<()>
+    requires held { Held p.reader room.old }
+    ensures { OnOk result (LastTold p room.old (W.contents output.old) (W.contents output.new)) }
 {
-    let last = finish(rt, p, entries, ends, differences, out, output)?;
+    let last = finish(rt, p, room, output)?;
     let report = last.report;
     let totals = report.totals;
-    let written = write_totals(out, totals);
-    write(output, &out[..written])
+    let written = write_totals(&mut room.out, totals);
+    write(output, &room.out[..written])
 }
 
-// Reads once, and takes what has come.
+// Reads once, and takes what has come. At the end of the input there is nothing to go on with.
 fn step<R: Read, W: Write>(
     rt: &impl Eprint,
     p: Progress,
-    entries: &mut [u16],
-    ends: &mut [usize],
-    differences: &mut [i32],
-    out: &mut [u8],
+    room: &mut Room,
     input: &mut R,
     output: &mut W,
-) -> io::Result<Served>
-    requires held { Held p.reader entries.old ends.old }
-    requires differences_len { (length differences.old ≡ 1024) × (4160 ≤ length out.old) }
-    ensures taken { IfOk result (λ served. TakenSome p entries.old ends.old served entries.new ends.new) }
-    ensures told { IfOk result (λ served. StepTold p entries.old ends.old served entries.new ends.new
+) -> io::Result<Option<Progress>>
+    requires held { Held p.reader room.old }
+    ensures taken { IfOk result (λ next. TakenSome p room.old next room.new) }
+    ensures told { IfOk result (λ next. StepTold p room.old next room.new
         (R.remaining input.old) (R.remaining input.new)
         (W.contents output.old) (W.contents output.new)) }
 {
     let mut bytes = read_buffer();
     let n = input.read(&mut bytes)?;
     if n == 0 {
-        close(rt, p, entries, ends, differences, out, output)?;
-        return Ok(Served::Over);
+        close(rt, p, room, output)?;
+        return Ok(None);
     }
-    let next = take(rt, p, &bytes[..n], entries, ends, differences, out, output)?;
-    Ok(Served::More(next))
-}
-
-// A report that starts.
-fn empty() -> Report
-    ensures { result ≡ empty }
-{
-    let totals = Row {
-        below: 0,
-        at: 0,
-        above: 0,
-        sum: 0,
-        lost: 0,
-        size: 0,
-    };
-    Report {
-        heaps: 0,
-        totals: totals,
-    }
+    let next = take(rt, p, &bytes[..n], room, output)?;
+    Ok(Some(next))
 }
 
 // A proved loop has to end, and nothing says that the input does: it ends after a number of reads that no run makes.
@@ -228,29 +178,21 @@ fn run<R: Read, W: Write>(rt: &impl Eprint, input: &mut R, output: &mut W) -> io
     ensures { OnOk result (IfSome (R.remaining input.old) (λ bytes. length bytes < u64.MAX →
         Appends (W.contents output.old) (W.contents output.new) (text_for (given start_state bytes)))) }
 {
-    let mut entries = [0u16; ENTRIES_MAX];
-    let mut ends = [0usize; TABLES];
-    let mut differences = [0i32; CELLS_MAX];
-    let mut out = [0u8; PIECE];
+    let mut room = Room {
+        entries: [0; ENTRIES_MAX],
+        ends: [0; TABLES],
+        differences: [0; CELLS_MAX],
+        out: [0; PIECE],
+    };
     let mut p = Progress {
         reader: start(),
-        report: empty(),
+        report: Report::default(),
         many: false,
     };
     for _ in 0..u64::MAX {
-        let served = step(
-            rt,
-            p,
-            &mut entries,
-            &mut ends,
-            &mut differences,
-            &mut out,
-            input,
-            output,
-        )?;
-        match served {
-            Served::More(next) => p = next,
-            Served::Over => return Ok(()),
+        match step(rt, p, &mut room, input, output)? {
+            Some(next) => p = next,
+            None => return Ok(()),
         }
     }
     Ok(())

@@ -11,21 +11,21 @@ fn added(t: Totals, a: Answer) -> Totals
     requires { CanRaise t a }
     ensures { result ≡ raised_by t a }
 {
-    let freed = t.freed + a.freed as u64;
-    let queued = t.queued + a.queued as u64;
+    let freed = t.freed + u64::from(a.freed);
+    let queued = t.queued + u64::from(a.queued);
     if a.refused == DONE {
         return Totals {
             done: t.done + 1,
-            refused: t.refused,
             freed,
             queued,
+            ..t
         };
     }
     Totals {
-        done: t.done,
         refused: t.refused + 1,
         freed,
         queued,
+        ..t
     }
 }
 

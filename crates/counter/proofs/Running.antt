@@ -10,8 +10,6 @@ use Rattle.rules.specs.Heap.{Heap}
 use Rattle.session.specs.Program.{at_start, header, output}
 use Rattle.session.specs.Session.{session}
 use Rattle.session.proofs.Delivery.{any_deliveries}
-use Rattle.counter.specs.declared.Served.{Served}
-use Rattle.counter.specs.declared.Served.TheVariants.{More, Over}
 use Rattle.counter.specs.Written.{Told, EndTold, ServedTold}
 use Rattle.counter.proofs.Written.{told_none, told_more}
 
@@ -27,10 +25,10 @@ pub running_begin : (from old : Option (List ℕ)) → Running 0 reader_start at
 running_begin from old = record { input = []; some = omega arith; read = Consumes-nil from; told = told_none reader_start at_start old }
 
 -- one read more
-pub running_further : (n : ℕ) (s t : Reader) (h k : Heap) (r : Served) (from mid to old said new : Option (List ℕ)) → Running n s h from mid old said
-    → ServedTold s h k mid to said new r → r ≡ More t → Running (n + 1) t k from to old new
+pub running_further : (n : ℕ) (s t : Reader) (h k : Heap) (r : Option Reader) (from mid to old said new : Option (List ℕ)) → Running n s h from mid old said
+    → ServedTold s h k mid to said new r → r ≡ Some t → Running (n + 1) t k from to old new
 running_further n s t h k r from mid to old said new a x e =
-    let b = subst (λ (x : Served). ServedTold s h k mid to said new x) e x in
+    let b = subst (λ (x : Option Reader). ServedTold s h k mid to said new x) e x in
     record {
       input = a.input ++ b.bytes;
       some = omega (arith, a.some, b.some, length-append a.input b.bytes);
@@ -54,10 +52,10 @@ running_end n s h k (Some bytes) (Some rest) old said new a b = λ _.
     subst (Appends old new) (answers ∙ ap (λ (l : List ℕ). session at_start (records_of l)) (sym all))
     (Appends-trans old said new a.told.text b.told.text a.told.written b.told.written)
 
-pub running_over : (n : ℕ) (s : Reader) (h k : Heap) (r : Served) (from mid to old said new : Option (List ℕ)) → Running n s h from mid old said
-    → ServedTold s h k mid to said new r → r ≡ Over → Answers from old new
+pub running_over : (n : ℕ) (s : Reader) (h k : Heap) (r : Option Reader) (from mid to old said new : Option (List ℕ)) → Running n s h from mid old said
+    → ServedTold s h k mid to said new r → r ≡ None → Answers from old new
 running_over n s h k r from mid to old said new a x e =
-    running_end n s h k from mid old said new a (subst (λ (x : Served). ServedTold s h k mid to said new x) e x)
+    running_end n s h k from mid old said new a (subst (λ (x : Option Reader). ServedTold s h k mid to said new x) e x)
 
 -- behind the header
 pub with_header : (from old mid new : Option (List ℕ)) (text : List ℕ) → text ≡ header → Appends old mid text → Answers from mid new

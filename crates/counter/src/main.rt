@@ -8,34 +8,23 @@
 ghost use Rattle.std.specs.Prelude.{◌≤◌, ◌<◌, length, IfOk, IfSome, OnOk};
 ghost use Rattle.std.specs.Io.KnownBytes.{Appends};
 ghost use Rattle.csv_text.specs.Lines.{records_of};
-ghost use Rattle.rules.specs.Heap.{tables};
+ghost use Rattle.rules.specs.Tables.{lent};
 ghost use Rattle.session.specs.Program.{at_start, output as output_for};
 ghost use Rattle.session.specs.Session.{session};
-ghost use Rattle.counter.specs.Served.{Answered, AnsweredSome};
+ghost use Rattle.session.specs.Deliveries.{Took};
+ghost use Rattle.counter.specs.Served.{AnsweredSome};
 ghost use Rattle.counter.specs.Written.{ServedTold, Told, ToldLast};
 
 use csv_text::reader::{Reader, start};
+use rules::tables::TablesMut;
 use session::{end, header, take};
 use std::io;
 use std::io::{Read, Write};
 use streams::{read_buffer, write};
 
-// After a read: the reader to go on with, or the run is over.
-#[derive(Drop)]
-enum Served {
-    More(Reader),
-    Over,
-}
-
 // Writes the answers to the lines that end in these bytes, in one go.
 fn answer<W: Write>(
-    kind: &mut [u16],
-    flags: &mut [u16],
-    count: &mut [u16],
-    slots: &mut [u16],
-    roots: &mut [u16],
-    queue: &mut [u16],
-    control: &mut [u16],
+    tables: &mut TablesMut,
     reader: Reader,
     bytes: &[u8],
     out: &mut [u8],
@@ -43,97 +32,51 @@ fn answer<W: Write>(
 ) -> io::Result<Reader>
     requires bytes_len_bound { length bytes.now ≤ 2048 }
     requires in_bounds { 65536 ≤ length out.old }
-    ensures taken { IfOk result (λ next. Answered reader
-        (tables kind.old flags.old count.old slots.old roots.old queue.old control.old)
-        bytes.now
-        (tables kind.new flags.new count.new slots.new roots.new queue.new control.new)
-        (Served.More next)) }
-    ensures told { IfOk result (λ next. Told reader
-        (tables kind.old flags.old count.old slots.old roots.old queue.old control.old)
-        bytes.now next
-        (tables kind.new flags.new count.new slots.new roots.new queue.new control.new)
+    ensures taken { IfOk result (λ next. Took reader (lent tables.old) bytes.now next (lent tables.new)) }
+    ensures told { IfOk result (λ next. Told reader (lent tables.old) bytes.now next (lent tables.new)
         (W.contents output.old) (W.contents output.new)) }
 {
-    let p = take(
-        kind, flags, count, slots, roots, queue, control, reader, bytes, out,
-    );
-    let written = p.written;
-    let next = p.reader;
-    write(output, &out[..written])?;
-    Ok(next)
+    let p = take(tables, reader, bytes, out);
+    write(output, &out[..p.written])?;
+    Ok(p.reader)
 }
 
 // The end of the input: an unfinished line is answered.
 fn close<W: Write>(
-    kind: &mut [u16],
-    flags: &mut [u16],
-    count: &mut [u16],
-    slots: &mut [u16],
-    roots: &mut [u16],
-    queue: &mut [u16],
-    control: &mut [u16],
+    tables: &mut TablesMut,
     reader: Reader,
     out: &mut [u8],
     output: &mut W,
 ) -> io::Result<()>
-    ensures { 31 ≤ length out.old → OnOk result (ToldLast reader
-        (tables kind.old flags.old count.old slots.old roots.old queue.old control.old)
-        (tables kind.new flags.new count.new slots.new roots.new queue.new control.new)
+    ensures { 31 ≤ length out.old → OnOk result (ToldLast reader (lent tables.old) (lent tables.new)
         (W.contents output.old) (W.contents output.new)) }
 {
-    let p = end(
-        kind, flags, count, slots, roots, queue, control, reader, out,
-    );
-    let written = p.written;
-    write(output, &out[..written])
+    let p = end(tables, reader, out);
+    write(output, &out[..p.written])
 }
 
-// Reads once, and answers. Each byte of a read ends at most one line, so the answers, at most 31 bytes each, fit the 65,536 bytes of `out`.
+// Reads once, and answers; the reader to go on with, or none where the run is over. Each byte of a read ends at most one line, so the answers, at most 31 bytes each, fit the 65,536 bytes of `out`.
 fn serve<R: Read, W: Write>(
-    kind: &mut [u16],
-    flags: &mut [u16],
-    count: &mut [u16],
-    slots: &mut [u16],
-    roots: &mut [u16],
-    queue: &mut [u16],
-    control: &mut [u16],
+    tables: &mut TablesMut,
     reader: Reader,
     out: &mut [u8],
     input: &mut R,
     output: &mut W,
-) -> io::Result<Served>
+) -> io::Result<Option<Reader>>
     requires { 65536 ≤ length out.old }
-    ensures taken { IfOk result (λ served. AnsweredSome reader
-        (tables kind.old flags.old count.old slots.old roots.old queue.old control.old)
-        (tables kind.new flags.new count.new slots.new roots.new queue.new control.new) served) }
-    ensures told { IfOk result (λ served. ServedTold reader
-        (tables kind.old flags.old count.old slots.old roots.old queue.old control.old)
-        (tables kind.new flags.new count.new slots.new roots.new queue.new control.new)
+    ensures taken { IfOk result (λ served. AnsweredSome reader (lent tables.old) (lent tables.new) served) }
+    ensures told { IfOk result (λ served. ServedTold reader (lent tables.old) (lent tables.new)
         (R.remaining input.old) (R.remaining input.new)
         (W.contents output.old) (W.contents output.new) served) }
 {
     let mut bytes = read_buffer();
     let n = input.read(&mut bytes)?;
     if n == 0 {
-        close(
-            kind, flags, count, slots, roots, queue, control, reader, out, output,
-        )?;
-        return Ok(Served::Over);
+        close(tables, reader, out, output)?;
+        return Ok(None);
     }
-    let next = answer(
-        kind,
-        flags,
-        count,
-        slots,
-        roots,
-        queue,
-        control,
-        reader,
-        &bytes[..n],
-        out,
-        output,
-    )?;
-    Ok(Served::More(next))
+    let next = answer(tables, reader, &bytes[..n], out, output)?;
+    Ok(Some(next))
 }
 
 // A fresh heap has 0 in every entry. `out` is made once: 65,536 zeros for each read would cost half as much again as its lines.
@@ -142,33 +85,22 @@ fn run<R: Read, W: Write>(input: &mut R, output: &mut W) -> io::Result<()>
     ensures { OnOk result (IfSome (R.remaining input.old) (λ bytes. length bytes < u64.MAX →
         Appends (W.contents output.old) (W.contents output.new) (session at_start (records_of bytes)))) }
 {
-    let mut kind = [0u16; 256];
-    let mut flags = [0u16; 256];
-    let mut count = [0u16; 256];
-    let mut slots = [0u16; 2048];
-    let mut roots = [0u16; 64];
-    let mut queue = [0u16; 256];
-    let mut control = [0u16; 2];
+    let mut tables = TablesMut {
+        kind: &mut [0; 256],
+        flags: &mut [0; 256],
+        count: &mut [0; 256],
+        slots: &mut [0; 2048],
+        roots: &mut [0; 64],
+        queue: &mut [0; 256],
+        control: &mut [0; 2],
+    };
     let mut out = [0u8; 65536];
     let mut reader = start();
     for _ in 0..u64::MAX {
-        let served = serve(
-            &mut kind,
-            &mut flags,
-            &mut count,
-            &mut slots,
-            &mut roots,
-            &mut queue,
-            &mut control,
-            reader,
-            &mut out,
-            input,
-            output,
-        )?;
-        match served {
-            Served::More(next) => reader = next,
-            Served::Over => return Ok(()),
-        }
+        let Some(next) = serve(&mut tables, reader, &mut out, input, output)? else {
+            return Ok(());
+        };
+        reader = next;
     }
     Ok(())
 }

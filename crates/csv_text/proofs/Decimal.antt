@@ -8,7 +8,7 @@ use mathlib.Core.Bool.{Bool, true, false}
 use lib.Dec.{ltb}
 use lib.ListN.{length, length-append}
 use borrow.Author.Tests.{ltb-true, ltb-false, lt-ltb, le-ltb}
-use Rattle.csv_text.specs.Decimal.{digits, decimal_of}
+use Rattle.csv_text.specs.Decimal.{digits, decimal_of, field_text, last_text}
 
 pub digits_small : (k n : ℕ) → n < 10 → digits k n ≡ (48 + n) ∷ []
 unfolding digits
@@ -61,5 +61,9 @@ decimal_digits (suc k) n h =
     let m : n < 10 ^ suc k * 10 = rw (pow-suc 10 (suc k)) at h in
     omega (arith, one_longer n (suc k) (10 ^ suc k) (decimal_digits k (n / 10)) (omega arith) m)
 
-pub decimal_length : (n : ℕ) → n < 65536 → length (decimal_of n) ≤ 5
-decimal_length n h = decimal_digits 4 n (omega arith)
+-- and with what stands after it
+pub field_width : (k n : ℕ) → n < 10 ^ suc k → length (field_text n) ≤ k + 2
+field_width k n h = omega (arith, length-append (decimal_of n) (44 ∷ []), decimal_digits k n h)
+
+pub last_width : (k n : ℕ) → n < 10 ^ suc k → length (last_text n) ≤ k + 3
+last_width k n h = omega (arith, length-append (decimal_of n) (13 ∷ 10 ∷ []), decimal_digits k n h)

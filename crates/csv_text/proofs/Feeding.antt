@@ -6,14 +6,12 @@ use mathlib.Core.List.{List, [], ◌∷◌, map}
 use mathlib.Core.Bool.{Bool, true, false, ◌&&◌, cond, and-true}
 use lib.Dec.{eqb}
 use borrow.Author.Tests.{eqb-true, eqb-false, ne_eqb, eq-eqb}
-use Rattle.csv_text.specs.Lines.{all, onto_first, lines_of, fields_of, value_from, record_of}
-use Rattle.csv_text.specs.Reading.{reader_start, skipping, with_cr, in_line, plain, record_so_far, fed, closed, given, at_end}
-use Rattle.csv_text.specs.declared.reader.Record.TheVariants.{Malformed}
+use Rattle.csv_text.specs.Lines.{malformed, all, onto_first, lines_of, fields_of, value_from, record_of}
+use Rattle.csv_text.specs.Reading.{reader_start, skipping, with_cr, in_line, plain, record_so_far, fed, closed, given, ended}
 use Rattle.csv_text.specs.declared.reader.Reader.{Reader}
-use Rattle.csv_text.specs.declared.reader.Step.TheVariants.{More, Line}
-use Rattle.csv_text.specs.declared.reader.Last.TheVariants.{Nothing, Final}
+use Rattle.std.specs.Prelude.{Some, None}
 use Rattle.csv_text.proofs.Meaning.{grows, record_from, closing, resumed, meaning}
-use Rattle.csv_text.proofs.Parts.{Some, lines_cons, lines_other, lines_lone, lines_some}
+use Rattle.csv_text.proofs.Parts.{Some as SomeParts, lines_cons, lines_other, lines_lone, lines_some}
 use Rattle.csv_text.proofs.Taking.{dead_line, no_digit, Takes, takes}
 use Rattle.csv_text.proofs.Start.{start_resumed}
 
@@ -77,17 +75,17 @@ says_lf s rest h = rw (meaning_cr s (10 ∷ rest) h, lines_cons 13 10 rest, mean
 says_lone : (s : Reader) (b : ℕ) (rest : List ℕ) → eqb s.cr 0 ≡ false → (b ≡ 10 → ⊥) → meaning s (b ∷ rest) ≡ meaning skipping (b ∷ rest)
 unfolding resumed onto_first
 says_lone s b rest h n =
-    let l : Some (lines_of (b ∷ rest)) = lines_some b rest in
+    let l : SomeParts (lines_of (b ∷ rest)) = lines_some b rest in
     rw (meaning_cr s (b ∷ rest) h, meaning_plain skipping (b ∷ rest) refl, lines_lone b rest n, l.split, no_digit s 13 l.head (λ e. omega arith) refl, dead_line skipping (fields_of l.head) refl)
 
 -- ---- any byte, and the end
 
 pub says : (s : Reader) (b : ℕ) (rest : List ℕ) → meaning s (b ∷ rest) ≡ given (fed s b) (λ t. meaning t rest)
-unfolding fed given
+unfolding fed ended
 says s b rest = go (eqb s.cr 0) (eqb b 10) refl refl
   where
     go : (x y : Bool) → eqb s.cr 0 ≡ x → eqb b 10 ≡ y
-        → meaning s (b ∷ rest) ≡ given (cond x (More (plain s b)) (cond y (Line (record_so_far s)) (More (plain skipping b)))) (λ t. meaning t rest)
+        → meaning s (b ∷ rest) ≡ given (cond x (plain s b, None) (cond y (reader_start, Some (record_so_far s)) (plain skipping b, None))) (λ t. meaning t rest)
     go true y e f = says_plain s b rest e
     go false true e f = rw (eqb-true b 10 f) (says_lf s rest e)
     go false false e f = says_lone s b rest e (eqb-false b 10 f) ∙ says_plain skipping b rest refl
@@ -96,12 +94,12 @@ says_nothing_more : (s : Reader) → eqb s.cr 0 ≡ true → meaning s [] ≡ cl
 unfolding resumed lines_of
 says_nothing_more s h = meaning_plain s [] h
 
-pub says_end : (s : Reader) → meaning s [] ≡ at_end (closed s)
-unfolding closed at_end resumed lines_of closing
+pub says_end : (s : Reader) → meaning s [] ≡ ended (closed s)
+unfolding closed ended resumed lines_of closing
 says_end s = go (eqb s.cr 0) (eqb s.field 0) (eqb s.digits 0) refl refl refl
   where
     go : (x y z : Bool) → eqb s.cr 0 ≡ x → eqb s.field 0 ≡ y → eqb s.digits 0 ≡ z
-        → meaning s [] ≡ at_end (cond x (cond (y && z) Nothing (Final (record_so_far s))) (Final Malformed))
+        → meaning s [] ≡ ended (cond x (cond (y && z) None (Some (record_so_far s))) (Some malformed))
     go false y z e f g = rw (meaning_cr s [] e) (ap (λ x. x ∷ []) (no_digit s 13 [] (λ e. omega arith) refl))
     go true true true e f g =
         rw (says_nothing_more s e, eq-eqb (s.field + s.digits) 0 (omega (arith, eqb-true s.field 0 f, eqb-true s.digits 0 g)))

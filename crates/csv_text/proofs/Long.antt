@@ -8,12 +8,10 @@ use mathlib.Core.Logic.{◌⊎◌, inl, inr}
 use lib.Dec.{eqb, leb, ltb}
 use lib.ListN.{length}
 use borrow.Author.Tests.{leb-true, leb-false, eqb-true}
-use Rattle.csv_text.specs.Lines.{all, onto_first, fields_of, is_digit, value_of, is_number, four, record_of_fields, record_of}
-use Rattle.csv_text.specs.Reading.{skipping, comma, digit, in_line, with_cr, plain, record_so_far, fed, LongLine, WithinLine, none, byte, Skipped}
-use Rattle.csv_text.specs.declared.reader.Record.TheVariants.{Malformed}
+use Rattle.std.specs.Prelude.{Some, None}
+use Rattle.csv_text.specs.Lines.{malformed, all, onto_first, fields_of, is_digit, value_of, is_number, four, record_of_fields, record_of}
+use Rattle.csv_text.specs.Reading.{Step, reader_start, skipping, comma, digit, in_line, with_cr, plain, record_so_far, fed, LongLine, WithinLine, none, byte, Skipped}
 use Rattle.csv_text.specs.declared.reader.Reader.{Reader}
-use Rattle.csv_text.specs.declared.reader.Step.{Step}
-use Rattle.csv_text.specs.declared.reader.Step.TheVariants.{More, Line}
 
 -- ---- what a long line says
 
@@ -49,17 +47,17 @@ numbers_short (f ∷ fs) e =
     omega (arith, number_short f h.0, numbers_short fs h.1)
 
 -- four numbers have at most five digits each
-long_fields : (fs : List (List ℕ)) → 24 < total fs → record_of_fields fs ≡ Malformed
+long_fields : (fs : List (List ℕ)) → 24 < total fs → record_of_fields fs ≡ malformed
 unfolding record_of_fields
 long_fields fs h = go (eqb (length fs) 4) (all is_number fs) refl refl
   where
-    go : (x y : Bool) → eqb (length fs) 4 ≡ x → all is_number fs ≡ y → cond (x && y) (four (map value_of fs)) Malformed ≡ Malformed
+    go : (x y : Bool) → eqb (length fs) 4 ≡ x → all is_number fs ≡ y → cond (x && y) (four (map value_of fs)) malformed ≡ malformed
     go true true e f = absurd (omega (arith, eqb-true (length fs) 4 e, numbers_short fs f))
     go true false e f = refl
     go false y e f = refl
 
 -- four times five digits, and three commas
-over_23 : (l : List ℕ) → 23 < length l → record_of l ≡ Malformed
+over_23 : (l : List ℕ) → 23 < length l → record_of l ≡ malformed
 unfolding record_of
 over_23 l h = long_fields (fields_of l) (omega (arith, total_fields l))
 
@@ -122,15 +120,15 @@ after_plain n s b p (counted h f d c) = go (eqb b 13) (eqb b 44) (is_digit b)
 
 -- after a byte, if it does not end the line
 abbrev AfterStep : ℕ → Step → Type 0
-AfterStep n (More s) = After n s
-AfterStep n (Line r) = Unit
+AfterStep n (s, None) = After n s
+AfterStep n (s, Some r) = Unit
 
 after_fed : (n : ℕ) (s : Reader) (b : ℕ) → After n s → AfterStep (suc n) (fed s b)
 unfolding fed
 after_fed n s b h = go (eqb s.cr 0) (eqb b 10) refl
   where
     go : (x y : Bool) → eqb s.cr 0 ≡ x
-        → AfterStep (suc n) (cond x (More (plain s b)) (cond y (Line (record_so_far s)) (More (plain skipping b))))
+        → AfterStep (suc n) (cond x (plain s b, None) (cond y (reader_start, Some (record_so_far s)) (plain skipping b, None)))
     go true y e = after_plain n s b (eqb-true s.cr 0 e) h
     go false true e = tt
     go false false e = skips (skips_on b)

@@ -5,9 +5,7 @@ use mathlib.Core.List.{List, [], ◌∷◌, map}
 use mathlib.Core.Bool.{Bool, true, ◌&&◌, cond}
 use lib.Dec.{eqb, leb, ltb}
 use lib.ListN.{length, drop}
-use Rattle.csv_text.specs.Lines.{all, lines_of, fields_of, is_digit, value_from, value_of, is_number, four, record_of}
-use Rattle.csv_text.specs.declared.reader.Record.{Record}
-use Rattle.csv_text.specs.declared.reader.Record.TheVariants.{Malformed}
+use Rattle.csv_text.specs.Lines.{Record, malformed, all, lines_of, fields_of, is_digit, value_from, value_of, is_number, four, record_of}
 use Rattle.csv_text.specs.declared.reader.Reader.{Reader}
 
 -- further bytes of a field that has n digits so far, of the value d, leave it a number
@@ -17,10 +15,10 @@ grows n d (b ∷ f) = is_digit b && (ltb n 5 && (leb (d * 10 + (b - 48)) 65535 &
 
 -- what a line says whose last fields are these: the first of them goes on where the reader stopped
 unfoldable pub record_from : Reader → List (List ℕ) → Record
-record_from s [] = Malformed
+record_from s [] = malformed
 record_from s (f ∷ fs) =
     cond (eqb (s.field + length fs) 3 && (leb 1 (s.digits + length f) && (grows s.digits s.d f && all is_number fs)))
-    (four (drop (length fs) (s.a ∷ s.b ∷ s.c ∷ value_from s.d f ∷ map value_of fs))) Malformed
+    (four (drop (length fs) (s.a ∷ s.b ∷ s.c ∷ value_from s.d f ∷ map value_of fs))) malformed
 
 -- at the end of the input: nothing, if the line is empty so far
 unfoldable pub closing : Reader → List Record

@@ -7,44 +7,43 @@ use mathlib.Core.Bool.{Bool, true, false, ◌&&◌, ◌||◌, cond, and-false, a
 use lib.Dec.{eqb, leb, ltb}
 use lib.ListN.{length}
 use borrow.Author.Tests.{leb-true, leb-false, ltb-true, ltb-false, eqb-true, eqb-false, le-leb, lt-leb, lt-ltb, le-ltb, ne_eqb}
-use Rattle.csv_text.specs.Lines.{all, onto_first, fields_of, is_digit, value_from}
+use Rattle.csv_text.specs.Lines.{malformed, all, onto_first, fields_of, is_digit, value_from}
 use Rattle.csv_text.proofs.Meaning.{grows, record_from}
 use Rattle.csv_text.specs.Reading.{skipping, comma, digit, in_line}
-use Rattle.csv_text.specs.declared.reader.Record.TheVariants.{Malformed}
 use Rattle.csv_text.specs.declared.reader.Reader.{Reader}
 use Rattle.csv_text.proofs.Numbers.{number_grows}
 use Rattle.csv_text.proofs.Parts.{Some, fields_comma, fields_other, fields_some}
 
 -- four fields are finished
-pub dead_line : (s : Reader) (fs : List (List ℕ)) → s.field ≡ 4 → record_from s fs ≡ Malformed
+pub dead_line : (s : Reader) (fs : List (List ℕ)) → s.field ≡ 4 → record_from s fs ≡ malformed
 unfolding record_from
 dead_line s [] h = refl
 dead_line s (f ∷ fs) h = rw (ne_eqb (s.field + length fs) 3 (λ e. omega arith))
 
-pub fourth_comma : (s : Reader) (l : List ℕ) → 3 ≤ s.field → record_from s (fields_of (44 ∷ l)) ≡ Malformed
+pub fourth_comma : (s : Reader) (l : List ℕ) → 3 ≤ s.field → record_from s (fields_of (44 ∷ l)) ≡ malformed
 unfolding record_from
 fourth_comma s l h =
     let f : Some (fields_of l) = fields_some l in
     rw (fields_comma l, f.split, ne_eqb (s.field + suc (length f.tail)) 3 (λ e. omega arith))
 
-pub empty_field : (s : Reader) (l : List ℕ) → s.digits ≡ 0 → record_from s (fields_of (44 ∷ l)) ≡ Malformed
+pub empty_field : (s : Reader) (l : List ℕ) → s.digits ≡ 0 → record_from s (fields_of (44 ∷ l)) ≡ malformed
 unfolding record_from
 empty_field s l h = rw (fields_comma l) (simp (lt-leb 1 (s.digits + 0) (omega arith), and-false))
 
-onto_malformed : (s : Reader) (b : ℕ) (fs : List (List ℕ)) → ((f : List ℕ) → grows s.digits s.d (b ∷ f) ≡ false) → record_from s (onto_first b fs) ≡ Malformed
+onto_malformed : (s : Reader) (b : ℕ) (fs : List (List ℕ)) → ((f : List ℕ) → grows s.digits s.d (b ∷ f) ≡ false) → record_from s (onto_first b fs) ≡ malformed
 unfolding record_from onto_first
 onto_malformed s b [] h = simp (h [], and-false)
 onto_malformed s b (f ∷ fs) h = simp (h f, and-false)
 
-pub no_digit : (s : Reader) (b : ℕ) (l : List ℕ) → (b ≡ 44 → ⊥) → (leb 48 b && leb b 57) ≡ false → record_from s (fields_of (b ∷ l)) ≡ Malformed
+pub no_digit : (s : Reader) (b : ℕ) (l : List ℕ) → (b ≡ 44 → ⊥) → (leb 48 b && leb b 57) ≡ false → record_from s (fields_of (b ∷ l)) ≡ malformed
 unfolding grows
 no_digit s b l n h = rw (fields_other b l n) (onto_malformed s b (fields_of l) (λ f. rw h))
 
-pub sixth_digit : (s : Reader) (b : ℕ) (l : List ℕ) → 48 ≤ b → 5 ≤ s.digits → record_from s (fields_of (b ∷ l)) ≡ Malformed
+pub sixth_digit : (s : Reader) (b : ℕ) (l : List ℕ) → 48 ≤ b → 5 ≤ s.digits → record_from s (fields_of (b ∷ l)) ≡ malformed
 unfolding grows
 sixth_digit s b l n h = rw (fields_other b l (λ e. omega arith)) (onto_malformed s b (fields_of l) (λ f. simp (le-ltb s.digits 5 h, and-false)))
 
-pub too_large : (s : Reader) (b : ℕ) (l : List ℕ) → 48 ≤ b → 65535 < s.d * 10 + (b - 48) → record_from s (fields_of (b ∷ l)) ≡ Malformed
+pub too_large : (s : Reader) (b : ℕ) (l : List ℕ) → 48 ≤ b → 65535 < s.d * 10 + (b - 48) → record_from s (fields_of (b ∷ l)) ≡ malformed
 unfolding grows
 too_large s b l n h = rw (fields_other b l (λ e. omega arith)) (onto_malformed s b (fields_of l) (λ f. simp (lt-leb (s.d * 10 + (b - 48)) 65535 h, and-false)))
 
@@ -56,7 +55,7 @@ pub record Takes (s : Reader) (byte : ℕ) (r : Reader) : Type 0 where
   pub begun : eqb (r.field + r.digits) 0 ≡ false
   pub plain : r.cr ≡ 0
 
-takes_skipping : (s : Reader) (b : ℕ) → ((l : List ℕ) → record_from s (fields_of (b ∷ l)) ≡ Malformed) → Takes s b skipping
+takes_skipping : (s : Reader) (b : ℕ) → ((l : List ℕ) → record_from s (fields_of (b ∷ l)) ≡ malformed) → Takes s b skipping
 takes_skipping s b h = record { line_says = λ l. h l ∙ sym (dead_line skipping (fields_of l) refl); begun = refl; plain = refl }
 
 -- a field is finished

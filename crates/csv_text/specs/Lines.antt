@@ -1,8 +1,18 @@
 -- Document 01, "The program": what an input says, line by line. Bytes are numbers here: 10 is LF, 13 CR, 44 the comma, 48 to 57 the digits.
 -- Assumes nothing: these are definitions.
-use Rattle.std.specs.Prelude.{ℕ, ◌+◌, ◌*◌, ◌-◌, List, [], ◌∷◌, map, Bool, true, ◌&&◌, cond, eqb, leb, length, get_or}
-use Rattle.csv_text.specs.declared.reader.Record.{Record}
-use Rattle.csv_text.specs.declared.reader.Record.TheVariants.{Numbers, Malformed}
+use Rattle.std.specs.Prelude.{ℕ, ◌+◌, ◌*◌, ◌-◌, List, [], ◌∷◌, map, Bool, true, ◌&&◌, cond, eqb, leb, length, get_or, Result, Ok, Err}
+use Rattle.csv_text.specs.declared.reader.Numbers.{Numbers}
+use Rattle.csv_text.specs.declared.reader.Malformed.{Malformed}
+
+-- what a line says: four numbers, or it is malformed
+abbrev pub Record : Type 0
+Record = Result Numbers Malformed
+
+abbrev pub numbers : ℕ → ℕ → ℕ → ℕ → Record
+numbers a b c d = Ok (record { 0 = a; 1 = b; 2 = c; 3 = d })
+
+abbrev pub malformed : Record
+malformed = Err (record {})
 
 -- does every entry pass
 unfoldable pub all {ℓ} : {A : Type ℓ} → (A → Bool) → List A → Bool
@@ -43,11 +53,11 @@ is_number f = leb 1 (length f) && (leb (length f) 5 && (all is_digit f && leb (v
 
 -- the first four numbers of a list
 abbrev pub four : List ℕ → Record
-four l = Numbers (get_or l 0 0) (get_or l 1 0) (get_or l 2 0) (get_or l 3 0)
+four l = numbers (get_or l 0 0) (get_or l 1 0) (get_or l 2 0) (get_or l 3 0)
 
 -- "Each line is four decimal fields": what the fields of a line say; "any other line" is Malformed
 unfoldable pub record_of_fields : List (List ℕ) → Record
-record_of_fields fs = cond (eqb (length fs) 4 && all is_number fs) (four (map value_of fs)) Malformed
+record_of_fields fs = cond (eqb (length fs) 4 && all is_number fs) (four (map value_of fs)) malformed
 
 unfoldable pub record_of : List ℕ → Record
 record_of l = record_of_fields (fields_of l)

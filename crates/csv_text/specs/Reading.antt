@@ -2,15 +2,13 @@
 -- make of a reader. Of the unfinished line it holds seven numbers: whether a CR is held back, the fields that are finished, the digits of the next one, and the
 -- last four values, d the latest.
 -- Assumes nothing: these are definitions.
-use Rattle.std.specs.Prelude.{ℕ, ◌+◌, ◌*◌, ◌-◌, ◌<◌, ◌≡◌, List, [], ◌∷◌, ◌&&◌, ◌||◌, cond, ◌⊎◌, eqb, leb, ltb, length}
-use Rattle.csv_text.specs.Lines.{is_digit, record_of, records_of}
-use Rattle.csv_text.specs.declared.reader.Record.{Record}
-use Rattle.csv_text.specs.declared.reader.Record.TheVariants.{Numbers, Malformed}
+use Rattle.std.specs.Prelude.{ℕ, ◌+◌, ◌*◌, ◌-◌, ◌<◌, ◌≡◌, List, [], ◌∷◌, ◌++◌, ◌&&◌, ◌||◌, cond, ◌⊎◌, eqb, leb, ltb, length, Option, Some, None}
+use Rattle.csv_text.specs.Lines.{Record, numbers, malformed, is_digit, record_of, records_of}
 use Rattle.csv_text.specs.declared.reader.Reader.{Reader}
-use Rattle.csv_text.specs.declared.reader.Step.{Step}
-use Rattle.csv_text.specs.declared.reader.Step.TheVariants.{More, Line}
-use Rattle.csv_text.specs.declared.reader.Last.{Last}
-use Rattle.csv_text.specs.declared.reader.Last.TheVariants.{Nothing, Final}
+
+-- what a byte gives: the reader to go on with, and what the line says that the byte ends, if it ends one
+abbrev pub Step : Type 0
+Step = Reader × Option Record
 
 -- nothing is held
 abbrev pub reader_start : Reader
@@ -46,30 +44,30 @@ plain s byte = cond (eqb byte 13) (with_cr s) (in_line s byte)
 
 -- what the line says if it ends here
 unfoldable pub record_so_far : Reader → Record
-record_so_far s = cond (eqb s.field 3 && leb 1 s.digits) (Numbers s.a s.b s.c s.d) Malformed
+record_so_far s = cond (eqb s.field 3 && leb 1 s.digits) (numbers s.a s.b s.c s.d) malformed
 
 -- the next byte: LF after a CR ends the line; any other byte makes the CR a lone one
 unfoldable pub fed : Reader → ℕ → Step
-fed s byte = cond (eqb s.cr 0) (More (plain s byte)) (cond (eqb byte 10) (Line (record_so_far s)) (More (plain skipping byte)))
+fed s byte = cond (eqb s.cr 0) (plain s byte, None) (cond (eqb byte 10) (reader_start, Some (record_so_far s)) (plain skipping byte, None))
 
 -- "Ending the input closes an unfinished line"; a CR at its end is a lone one
-unfoldable pub closed : Reader → Last
-closed s = cond (eqb s.cr 0) (cond (eqb s.field 0 && eqb s.digits 0) Nothing (Final (record_so_far s))) (Final Malformed)
+unfoldable pub closed : Reader → Option Record
+closed s = cond (eqb s.cr 0) (cond (eqb s.field 0 && eqb s.digits 0) None (Some (record_so_far s))) (Some malformed)
 
 -- ---- a whole input
 
--- the records of the lines that end from here on, where `after` are those of the rest, by the reader that it begins with
-unfoldable pub given : Step → (Reader → List Record) → List Record
-given (More s) after = after s
-given (Line r) after = r ∷ after reader_start
+-- the record of the line that ended, if one did
+unfoldable pub ended : Option Record → List Record
+ended None = []
+ended (Some r) = r ∷ []
 
-unfoldable pub at_end : Last → List Record
-at_end Nothing = []
-at_end (Final r) = r ∷ []
+-- the records of the lines that end from here on, where `after` are those of the rest, by the reader that it begins with
+abbrev pub given : Step → (Reader → List Record) → List Record
+given step after = ended step.1 ++ after step.0
 
 -- the records that a reader gives out for the rest of an input, and at its end
 unfoldable pub records : List ℕ → Reader → List Record
-records [] s = at_end (closed s)
+records [] s = ended (closed s)
 records (b ∷ rest) s = given (fed s b) (records rest)
 
 -- the claim: from the start these are the records of the input's lines
@@ -80,12 +78,12 @@ ReadsAll = (input : List ℕ) → records input reader_start ≡ records_of inpu
 
 -- "A line over 64 bytes is LINE"
 abbrev pub LongLine : Type 0
-LongLine = (l : List ℕ) → 64 < length l → record_of l ≡ Malformed
+LongLine = (l : List ℕ) → 64 < length l → record_of l ≡ malformed
 
 -- these bytes lead from one reader to another, and end no line
 pub data WithinLine : Reader → List ℕ → Reader → Type 0 where
   none : {s : Reader} → WithinLine s [] s
-  byte : {s t : Reader} (b : ℕ) {rest : List ℕ} (next : Reader) → fed s b ≡ More next → WithinLine next rest t → WithinLine s (b ∷ rest) t
+  byte : {s t : Reader} (b : ℕ) {rest : List ℕ} (next : Reader) → fed s b ≡ (next, None) → WithinLine next rest t → WithinLine s (b ∷ rest) t
 
 -- "is skipped to its CR LF without being stored": whatever the first bytes of a line were, with more than 64 of them the reader knows no more than that it is skipping
 abbrev pub Skipped : Type 0

@@ -4,3 +4,6 @@
 pub mod number;
 pub mod reader;
 pub mod render;
+
+// What parts the fields of a line.
+pub const COMMA: u8 = b',';

@@ -1,4 +1,7 @@
-// A number with no leading zeros, put into a buffer. Up to three digits are written straight, since most numbers have no more.
+// A number with no leading zeros, put into a buffer. Up to three digits are written straight, since most numbers have no more. Not by Display: its text
+// is a String, and there is no heap; and `Wrote` promises the place behind the number.
+// `out` and `at` stay two parameters: with a struct that lends the buffer each contract would also say that its field keeps its ghost name.
+// `as` narrows here what is known to fit: a TryFrom would leave a way out that is never taken.
 ghost use Rattle.std.specs.Prelude.{◌+◌, ◌%◌, ◌≤◌, ◌<◌, [], ◌∷◌, length};
 ghost use Rattle.csv_text.specs.Decimal.{decimal_of};
 ghost use Rattle.csv_text.specs.Written.{Wrote};
@@ -31,9 +34,10 @@ fn put_last_digit(out: &mut [u8], at: usize, n: u64) -> usize
     requires { at < length out.old }
     ensures { Wrote out.old at ((48 + n % 10) ∷ []) out.new result }
 {
-    put_byte(out, at, 48 + (n % 10) as u8)
+    put_byte(out, at, b'0' + (n % 10) as u8)
 }
 
+// Two and three digits stay two functions: one over a const parameter N would call itself at N - 1, and a const argument may be a parameter's name alone.
 fn put_two_digits(out: &mut [u8], at: usize, n: u64) -> usize
     requires { (10 ≤ n) × (n < 100) × (at + length (decimal_of n) ≤ length out.old) }
     ensures { Wrote out.old at (decimal_of n) out.new result }

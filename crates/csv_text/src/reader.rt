@@ -2,17 +2,23 @@
 ghost use Rattle.std.specs.Prelude.{◌≡◌, ◌≤◌};
 ghost use Rattle.csv_text.specs.Reading.{reader_start, skipping, comma as after_comma, digit as after_digit, in_line, plain, record_so_far, fed, closed};
 
-// What a line says.
+use crate::COMMA;
+
+// The numbers of a line, in their order.
 #[derive(Clone, Copy)]
-pub enum Record {
-    Numbers(u16, u16, u16, u16),
-    Malformed,
-}
+pub struct Numbers(pub u16, pub u16, pub u16, pub u16);
+
+// A line that is not four numbers.
+#[derive(Clone, Copy)]
+pub struct Malformed;
+
+// What a line says.
+pub type Record = Result<Numbers, Malformed>;
 
 // The line so far: the fields that are finished, then the digits and the value of the next one. The last four values are kept, d the latest.
-// A CR is not part of the line until the next byte is known: cr is 0 if none is held back.
+// A CR is not part of the line until the next byte is known: cr is 0 if none is held back, a number, since C carries the reader.
 #[repr(C)]
-#[derive(Clone, Copy)]
+#[derive(Clone, Copy, Default)]
 pub struct Reader {
     pub cr: u16,
     pub field: u16,
@@ -23,74 +29,47 @@ pub struct Reader {
     pub d: u16,
 }
 
-// What a byte gives: a reader to go on with, or a finished line, after which the next begins.
-#[derive(Clone, Copy)]
-pub enum Step {
-    More(Reader),
-    Line(Record),
-}
-
-// What the end of the input gives.
-#[derive(Clone, Copy)]
-pub enum Last {
-    Nothing,
-    Final(Record),
-}
-
 // Before any input.
 pub fn start() -> Reader
     ensures { result ≡ reader_start }
 {
-    Reader {
-        cr: 0,
-        field: 0,
-        digits: 0,
-        a: 0,
-        b: 0,
-        c: 0,
-        d: 0,
-    }
+    Reader::default()
 }
 
-// The next byte of the input.
-pub fn feed(s: Reader, byte: u8) -> Step
+// The next byte of the input: the reader to go on with, and what the line says that the byte ends, if it ends one.
+pub fn feed(s: Reader, byte: u8) -> (Reader, Option<Record>)
     ensures { result ≡ fed s byte }
 {
     if s.cr == 0 {
-        return Step::More(next(s, byte));
+        return (next(s, byte), None);
     }
-    if byte == 10 {
-        return Step::Line(said(s));
+    if byte == b'\n' {
+        return (start(), Some(said(s)));
     }
-    Step::More(next(skip(), byte))
+    (next(skip(), byte), None)
 }
 
 // The end of the input closes an unfinished line; a CR at its end is part of it.
-pub fn end(s: Reader) -> Last
+pub fn end(s: Reader) -> Option<Record>
     ensures { result ≡ closed s }
 {
     if s.cr != 0 {
-        return Last::Final(Record::Malformed);
+        return Some(Err(Malformed));
     }
-    if s.field == 0 {
-        if s.digits == 0 {
-            return Last::Nothing;
-        }
+    if s.field == 0 && s.digits == 0 {
+        return None;
     }
-    Last::Final(said(s))
+    Some(said(s))
 }
 
 // What the line says if it ends here.
 fn said(s: Reader) -> Record
     ensures { result ≡ record_so_far s }
 {
-    if s.field != 3 {
-        return Record::Malformed;
+    if s.field != 3 || s.digits == 0 {
+        return Err(Malformed);
     }
-    if s.digits == 0 {
-        return Record::Malformed;
-    }
-    Record::Numbers(s.a, s.b, s.c, s.d)
+    Ok(Numbers(s.a, s.b, s.c, s.d))
 }
 
 // A line that no further byte can mend: it is skipped to its end, and nothing more of it is kept.
@@ -99,13 +78,9 @@ fn skip() -> Reader
     ensures { result ≡ skipping }
 {
     Reader {
-        cr: 0,
         field: 4,
         digits: 5,
-        a: 0,
-        b: 0,
-        c: 0,
-        d: 0,
+        ..start()
     }
 }
 
@@ -113,10 +88,8 @@ fn skip() -> Reader
 fn next(s: Reader, byte: u8) -> Reader
     ensures { result ≡ plain s byte }
 {
-    if byte == 13 {
-        let mut t = s;
-        t.cr = 1;
-        return t;
+    if byte == b'\r' {
+        return Reader { cr: 1, ..s };
     }
     in_line(s, byte)
 }
@@ -125,37 +98,28 @@ fn next(s: Reader, byte: u8) -> Reader
 fn in_line(s: Reader, byte: u8) -> Reader
     ensures { result ≡ in_line s byte }
 {
-    if byte == 44 {
+    if byte == COMMA {
         return comma(s);
     }
-    if byte < 48 {
-        return skip();
+    if byte.is_ascii_digit() {
+        return digit(s, byte);
     }
-    if byte > 57 {
-        return skip();
-    }
-    digit(s, byte)
+    skip()
 }
 
 // A comma ends a field: at most the third, and none that is empty.
 fn comma(s: Reader) -> Reader
     ensures { result ≡ after_comma s }
 {
-    let field = s.field;
-    if field >= 3 {
-        return skip();
-    }
-    if s.digits == 0 {
+    if s.field >= 3 || s.digits == 0 {
         return skip();
     }
     Reader {
-        cr: 0,
-        field: field + 1,
-        digits: 0,
+        field: s.field + 1,
         a: s.b,
         b: s.c,
         c: s.d,
-        d: 0,
+        ..start()
     }
 }
 
@@ -164,21 +128,17 @@ fn digit(s: Reader, byte: u8) -> Reader
     requires { (48 ≤ byte) × (byte ≤ 57) }
     ensures { result ≡ after_digit s byte }
 {
-    let digits = s.digits;
-    if digits >= 5 {
+    if s.digits >= 5 {
         return skip();
     }
-    let value = s.d as u32 * 10 + (byte - 48) as u32;
-    if value > 65535 {
+    let value = u32::from(s.d) * 10 + u32::from(byte - b'0');
+    let Ok(d) = u16::try_from(value) else {
         return skip();
-    }
+    };
     Reader {
         cr: 0,
-        field: s.field,
-        digits: digits + 1,
-        a: s.a,
-        b: s.b,
-        c: s.c,
-        d: value as u16,
+        digits: s.digits + 1,
+        d,
+        ..s
     }
 }

@@ -3,7 +3,7 @@ use Prim.Native.Nat.{ℕ, ◌+◌, ◌*◌, ◌-◌, ◌≤◌, ◌<◌}
 use native.Mathlib.Omega.{arith}
 use mathlib.Core.Path.{◌≡◌, refl, ◌∙◌, ap}
 use mathlib.Core.List.{[], ◌∷◌, ◌++◌}
-use mathlib.Core.Bool.{Bool, true, false, ◌||◌, not, cond, or-true, and-false}
+use mathlib.Core.Bool.{Bool, true, false, ◌||◌, not, cond, or-true}
 use lib.Dec.{eqb}
 use borrow.Author.Tests.{le-leb, lt-leb, lt-ltb, le-ltb, eq-eqb, ne_eqb}
 use Rattle.csv_text.specs.Lines.{is_digit}
@@ -69,15 +69,6 @@ line_other s b e n h = by_kind_lem s b false false false e (ne_eqb b 44 n) h
 
 pub line_digit : (s : State) (b : ℕ) → s.reader.spoilt ≡ false → (b ≡ 44 → ⊥) → is_digit b ≡ true → in_line s b ≡ with s (digit s.reader b)
 line_digit s b e n h = by_kind_lem s b false false true e (ne_eqb b 44 n) h
-
-pub line_below : (s : State) (b : ℕ) → s.reader.spoilt ≡ false → (b ≡ 44 → ⊥) → b < 48 → in_line s b ≡ spoiled s
-line_below s b e n h = line_other s b e n (rw (lt-leb 48 b h))
-
-pub line_above : (s : State) (b : ℕ) → s.reader.spoilt ≡ false → 57 < b → in_line s b ≡ spoiled s
-line_above s b e h = line_other s b e (λ z. omega arith) (rw (lt-leb b 57 h, and-false))
-
-pub line_number : (s : State) (b : ℕ) → s.reader.spoilt ≡ false → 48 ≤ b → b ≤ 57 → in_line s b ≡ with s (digit s.reader b)
-line_number s b e h k = line_digit s b e (λ z. omega arith) (rw (le-leb 48 b h, le-leb b 57 k))
 
 -- ---- a byte with no CR before it
 

@@ -25,6 +25,12 @@ agree step other r h s e = subst (λ (x : Reader). step (on x s.finished s.row) 
 
 -- ---- the start
 
+-- a reader of zeros
+pub at_start : {r : Reader}
+    → (r.tables ≡ 0) × ((r.end ≡ 0) × ((r.digits ≡ 0) × ((r.value ≡ 0) × ((r.begun ≡ false) × ((r.cr ≡ false) × (r.spoilt ≡ false)))))) → r ≡ reader_start
+at_start (t, (e, (d, (v, (b, (c, s)))))) =
+    λ i. record { tables = t i; end = e i; digits = d i; value = v i; begun = b i; cr = c i; spoilt = s i }
+
 pub starts : (r : Reader) → r ≡ reader_start → Starts r
 unfolding size joined
 starts r e = record {

@@ -5,23 +5,23 @@ ghost use Rattle.dump.specs.Holding.{Goes};
 
 use crate::reader::{ENTRIES_MAX, Reader};
 
-// The longest field, and the largest number.
+// The longest field.
 const DIGITS_MAX: u16 = 5;
-
-const VALUE_MAX: u32 = 65535;
 
 // The heap can fit no N: from here on its lines are counted, and nothing is stored.
 pub fn spoil(reader: Reader) -> Reader
     ensures { result ≡ spoiltReader reader }
 {
-    let mut r = reader;
-    r.begun = true;
-    r.cr = false;
-    r.spoilt = true;
-    r
+    Reader {
+        begun: true,
+        cr: false,
+        spoilt: true,
+        ..reader
+    }
 }
 
 // A digit: at most the fifth of its field, with a value of at most 65,535.
+// csv_text's reader asks the same of its own: one function would answer an Option, which each reader tests again to go on in its own way.
 pub fn digit(reader: Reader, byte: u8) -> Reader
     requires { (48 ≤ byte) × (byte ≤ 57) }
     ensures { result ≡ afterDigit reader byte }
@@ -30,15 +30,16 @@ pub fn digit(reader: Reader, byte: u8) -> Reader
     if digits >= DIGITS_MAX {
         return spoil(reader);
     }
-    let value = reader.value as u32 * 10 + (byte - b'0') as u32;
-    if value > VALUE_MAX {
+    let value = u32::from(reader.value) * 10 + u32::from(byte - b'0');
+    let Ok(value) = u16::try_from(value) else {
         return spoil(reader);
+    };
+    Reader {
+        digits: digits + 1,
+        value,
+        begun: true,
+        ..reader
     }
-    let mut r = reader;
-    r.digits = digits + 1;
-    r.value = value as u16;
-    r.begun = true;
-    r
 }
 
 // A field ends: it has a digit, and its entry has room.
@@ -55,10 +56,11 @@ pub fn store(reader: Reader, entries: &mut [u16]) -> Reader
     }
     let after = place + 1;
     entries[place] = reader.value;
-    let mut r = reader;
-    r.end = after;
-    r.digits = 0;
-    r.value = 0;
-    r.begun = true;
-    r
+    Reader {
+        end: after,
+        digits: 0,
+        value: 0,
+        begun: true,
+        ..reader
+    }
 }

@@ -5,6 +5,7 @@ ghost use Rattle.dump.specs.Holding.{Ready, Goes, Marks, Steps};
 
 use crate::field::{digit, spoil, store};
 use crate::reader::Reader;
+use csv_text::COMMA;
 
 // A byte with no CR before it.
 pub fn next(reader: Reader, byte: u8, entries: &mut [u16]) -> Reader
@@ -12,9 +13,7 @@ pub fn next(reader: Reader, byte: u8, entries: &mut [u16]) -> Reader
     ensures { Goes (λ s. plain s byte) reader entries.old result entries.new }
 {
     if byte == b'\r' {
-        let mut r = reader;
-        r.cr = true;
-        return r;
+        return Reader { cr: true, ..reader };
     }
     in_line(reader, byte, entries)
 }
@@ -27,16 +26,13 @@ fn in_line(reader: Reader, byte: u8, entries: &mut [u16]) -> Reader
     if reader.spoilt {
         return spoil(reader);
     }
-    if byte == b',' {
+    if byte == COMMA {
         return store(reader, entries);
     }
-    if byte < b'0' {
-        return spoil(reader);
+    if byte.is_ascii_digit() {
+        return digit(reader, byte);
     }
-    if byte > b'9' {
-        return spoil(reader);
-    }
-    digit(reader, byte)
+    spoil(reader)
 }
 
 // The line ends, and its table with it.
@@ -72,10 +68,7 @@ fn mark(reader: Reader, ends: &mut [usize]) -> Reader
     Reader {
         tables: tables + 1,
         end: reader.end,
-        digits: 0,
-        value: 0,
-        begun: false,
-        cr: false,
         spoilt: reader.spoilt,
+        ..Reader::default()
     }
 }

@@ -12,8 +12,9 @@ pub const TABLES: usize = 7;
 pub const ENTRIES_MAX: usize = 12354;
 
 // The heap so far: its finished tables and stored entries, then the digits and the value of the unfinished field. `begun` says whether the line has a byte.
+// The flags are three facts, each of which may be so or not whatever the other two are: an enum would have a variant for every set of them.
 // A CR is not part of the line until the next byte is known: `cr` says whether one is held back. A heap that is `spoilt` can fit no N, whatever follows.
-#[derive(Clone, Copy)]
+#[derive(Clone, Copy, Default)]
 pub struct Reader {
     pub tables: usize,
     pub end: usize,
@@ -28,15 +29,7 @@ pub struct Reader {
 pub fn start() -> Reader
     ensures { Starts result }
 {
-    Reader {
-        tables: 0,
-        end: 0,
-        digits: 0,
-        value: 0,
-        begun: false,
-        cr: false,
-        spoilt: false,
-    }
+    Reader::default()
 }
 
 // The next byte of the input. With all seven tables the heap is complete, and the next byte goes to a reader at its start.
@@ -86,8 +79,9 @@ fn fill(reader: Reader) -> Reader
     if reader.tables == TABLES {
         return reader;
     }
-    let mut r = reader;
-    r.tables = TABLES;
-    r.spoilt = true;
-    r
+    Reader {
+        tables: TABLES,
+        spoilt: true,
+        ..reader
+    }
 }

@@ -1,4 +1,4 @@
--- What START's code writes and answers is what START does; the count of the queue's head can rise.
+-- What START's code writes and answers is what START does, or why it is refused; the count of the queue's head can rise.
 -- Assumes nothing.
 use Prim.Native.Nat.{ℕ, suc, ◌+◌, ◌-◌, ◌≤◌}
 use native.Mathlib.Numerals.{add-one}
@@ -6,6 +6,10 @@ use native.Mathlib.Omega.{arith}
 use mathlib.Core.List.{List, map}
 use mathlib.Core.Path.{◌≡◌, refl, ap, ◌∙◌}
 use lib.ListN.{length, take, set}
+use Rattle.rules.specs.declared.Answer.{Answer}
+use Rattle.rules.specs.declared.refusal.Refusal.{Refusal}
+use Rattle.rules.specs.Refused.{number_of}
+use Rattle.rules.specs.Refusals.{is_fresh, refusal_sound}
 use Rattle.rules.specs.Heap.{Heap, tables, queued, kind_of, queue_at, set_root, set_running}
 use Rattle.rules.specs.Sound.{Ready}
 use Rattle.rules.specs.Release.{raise, incref}
@@ -14,6 +18,8 @@ use Rattle.rules.specs.Calls.{answers, done, start_run, act}
 use Rattle.laws.specs.Sound.Facts.{ready_facts}
 use Rattle.laws.specs.Calls.Admission.{tables_eq}
 use Rattle.laws.specs.Calls.Finish.{head_object}
+use Rattle.laws.specs.Calls.Inner.{Ran, inner_refused}
+use Rattle.rules.proofs.Refusing.{refuses}
 use Rattle.release.specs.Release.{Raisable}
 use Rattle.release.proofs.Writing.{raisable}
 
@@ -39,3 +45,9 @@ module _ (h : Heap) where
     pub start_lists : (room : List ℕ) → take (length (act h (START r)).freed) room ≡ map suc (act h (START r)).freed
     unfolding act done
     start_lists room = refl
+
+-- a refusal of START's, by the law that gives its reason
+pub start_refused : {h : Heap} {r : ℕ} {a : Answer} → Ready h → (why : Refusal) → refusal_sound h (START r) ≡ number_of why → a ≡ answers (number_of why) 0 0 0
+    → (room : List ℕ) → Ran (START r) h room h room a
+unfolding is_fresh
+start_refused ready why law answer room = inner_refused ready refl law (refuses why) answer

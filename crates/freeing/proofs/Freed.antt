@@ -7,11 +7,10 @@ use mathlib.Core.List.{List}
 use mathlib.Core.Bool.{true, false}
 use mathlib.Core.Logic.{inl, inr, by_cases}
 use mathlib.Core.Path.{◌≡◌, sym, ap, ◌∙◌}
-use lib.ListN.{get_or, set}
-use Rattle.rules.specs.Heap.{tables, plain, wiped_slots, wipe}
+use lib.ListN.{set}
+use Rattle.rules.specs.Heap.{Heap, tables, kind_of, plain, wiped_slots, wipe}
 use Rattle.laws.specs.Lists.Tests.{fails}
 use Rattle.laws.specs.Freeing.{kinds_plain, plain_kinds, plain_between}
-use Rattle.freeing.specs.Freeing.{CellFreed}
 
 -- ---- the kinds, as bounds: a test for another kind is then refuted by a number
 
@@ -28,9 +27,9 @@ cleared : (l : List ℕ) (i c x : ℕ) → i ≡ c → x ≡ 0 → set l i x ≡
 cleared l i c x at zero = ap (set l i) zero ∙ ap (λ (j : ℕ). set l j 0) at
 
 -- the slots go by the kind that the cell had
-pub freed : (k f n s s' : List ℕ) (i c a b d old : ℕ) → i ≡ c → a ≡ 0 → b ≡ 0 → d ≡ 0 → old ≡ get_or k c 0 → s' ≡ wiped_slots old s c
-    → CellFreed k f n s c (set k i a) (set f i b) (set n i d) s'
+pub freed : (h : Heap) (s : List ℕ) (i c a b d old : ℕ) → i ≡ c → a ≡ 0 → b ≡ 0 → d ≡ 0 → old ≡ kind_of h c → s ≡ wiped_slots old h.slots c
+    → tables (set h.kind i a) (set h.flags i b) (set h.count i d) s h.roots h.queue h.control ≡ wipe h c
 unfolding wipe
-freed k f n s s' i c a b d old at kind flags count was slots =
-    let slots₁ : s' ≡ wiped_slots (get_or k c 0) s c = slots ∙ ap (λ (x : ℕ). wiped_slots x s c) was in
-    record { heap = λ r q t j. tables (cleared k i c a at kind j) (cleared f i c b at flags j) (cleared n i c d at count j) (slots₁ j) r q t }
+freed h s i c a b d old at kind flags count was slots =
+    let slots₁ : s ≡ wiped_slots (kind_of h c) h.slots c = slots ∙ ap (λ (x : ℕ). wiped_slots x h.slots c) was in
+    λ j. tables (cleared h.kind i c a at kind j) (cleared h.flags i c b at flags j) (cleared h.count i c d at count j) (slots₁ j) h.roots h.queue h.control

@@ -2,10 +2,12 @@
 #![tactic(auto)]
 
 ghost use Rattle.std.specs.Prelude.{◌≡◌, ◌+◌, ◌*◌, ◌≤◌, length};
-ghost use Rattle.rules.specs.Heap.{plain, wiped_slots};
-ghost use Rattle.freeing.specs.Freeing.{CellInTables, CellFreed};
+ghost use Rattle.rules.specs.Heap.{plain, wiped_slots, wipe};
+ghost use Rattle.rules.specs.Tables.{lent, SameTables};
+ghost use Rattle.freeing.specs.Freeing.{CellInTables};
 
-use numbers::cell::Cell;
+use numbers::Cell;
+use rules::tables::TablesMut;
 
 // Whether this is the kind of a string or buffer.
 pub fn is_plain(kind: u16) -> bool
@@ -28,28 +30,23 @@ fn empty_slots(slots: &mut [u16], cell: Cell, kind: u16)
     if is_plain(kind) {
         return;
     }
+    // one by one: the proof of a `fill` of these eight did not close
     for k in 0..8 {
         slots[8 * cell.index() + k] = 0;
     }
 }
 
 // A cell becomes free: its kind, flags and count become 0, and its slots too, unless it was a string or buffer.
-pub fn free_cell(
-    kind: &mut [u16],
-    flags: &mut [u16],
-    count: &mut [u16],
-    slots: &mut [u16],
-    cell: Cell,
-)
-    requires { CellInTables kind.old flags.old count.old slots.old cell.0 }
-    ensures { CellFreed kind.old flags.old count.old slots.old cell.0
-        kind.new flags.new count.new slots.new }
+pub fn free_cell(tables: &mut TablesMut, cell: Cell)
+    requires { CellInTables (lent tables.old) cell.0 }
+    ensures same { SameTables tables.old tables.new }
+    ensures freed { lent tables.new ≡ wipe (lent tables.old) cell.0 }
 {
     let c = cell.index();
     // before the kind is 0, since it tells whether the slots are written
-    let old_kind = kind[c];
-    kind[c] = 0;
-    flags[c] = 0;
-    count[c] = 0;
-    empty_slots(slots, cell, old_kind);
+    let old_kind = tables.kind[c];
+    tables.kind[c] = 0;
+    tables.flags[c] = 0;
+    tables.count[c] = 0;
+    empty_slots(tables.slots, cell, old_kind);
 }

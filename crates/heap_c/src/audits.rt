@@ -5,6 +5,7 @@ ghost use Rattle.rules.specs.Audit.{audited, differences_after};
 
 use audit::audit;
 use rules::audit::{Audited, Report};
+use rules::tables::Tables;
 
 #[unsafe(no_mangle)]
 pub extern "C" fn vek_audit(
@@ -26,7 +27,7 @@ pub extern "C" fn vek_audit(
         (tables kind.now flags.now count.now slots.now roots.now queue.now control.now)
         differences.old }
 {
-    audit(
+    let tables = Tables {
         kind,
         flags,
         count,
@@ -34,7 +35,6 @@ pub extern "C" fn vek_audit(
         roots,
         queue,
         control,
-        differences,
-        report,
-    )
+    };
+    audit(tables, differences, report)
 }

@@ -4,8 +4,9 @@ ghost use Rattle.rules.specs.Batch.{Batched};
 
 use answers::{done, refuse};
 use batch::{admit_batch, run};
+use rules::Answer;
 use rules::batch::{CallRecord, Totals};
-use rules::{Answer, DONE};
+use rules::tables::TablesMut;
 
 #[unsafe(no_mangle)]
 pub extern "C" fn vek_batch(
@@ -25,7 +26,7 @@ pub extern "C" fn vek_batch(
         (tables kind.new flags.new count.new slots.new roots.new queue.new control.new)
         answers.new totals.new result }
 {
-    let why = admit_batch(
+    let mut tables = TablesMut {
         kind,
         flags,
         count,
@@ -33,15 +34,10 @@ pub extern "C" fn vek_batch(
         roots,
         queue,
         control,
-        records.len(),
-        answers.len(),
-        *totals,
-    );
-    if why != DONE {
+    };
+    if let Err(why) = admit_batch(&tables, records.len(), answers.len(), *totals) {
         return refuse(why);
     }
-    run(
-        kind, flags, count, slots, roots, queue, control, records, answers, totals,
-    );
+    run(&mut tables, records, answers, totals);
     done()
 }

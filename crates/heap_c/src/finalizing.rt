@@ -4,9 +4,10 @@ ghost use Rattle.rules.specs.Calls.{Did};
 ghost use Rattle.rules.specs.Refusals.Call.{START, FINISH};
 
 use crate::freed::{admit_lent, end_list};
-use answers::refuse;
+use answers::{answered, refuse};
 use finalizers::{finish, start};
-use rules::{Answer, DONE};
+use rules::Answer;
+use rules::tables::TablesMut;
 
 #[unsafe(no_mangle)]
 pub extern "C" fn vek_start(
@@ -24,11 +25,19 @@ pub extern "C" fn vek_start(
         (tables kind.old flags.old count.old slots.old roots.old queue.old control.old) freed.old
         (tables kind.new flags.new count.new slots.new roots.new queue.new control.new) freed.new result }
 {
-    let why = admit_lent(kind, flags, count, slots, roots, queue, control, freed);
-    if why != DONE {
+    let mut tables = TablesMut {
+        kind,
+        flags,
+        count,
+        slots,
+        roots,
+        queue,
+        control,
+    };
+    if let Err(why) = admit_lent(&tables, freed) {
         return refuse(why);
     }
-    let answer = start(kind, flags, count, slots, roots, queue, control, root);
+    let answer = answered(start(&mut tables, root));
     end_list(freed, answer);
     answer
 }
@@ -48,11 +57,19 @@ pub extern "C" fn vek_finish(
         (tables kind.old flags.old count.old slots.old roots.old queue.old control.old) freed.old
         (tables kind.new flags.new count.new slots.new roots.new queue.new control.new) freed.new result }
 {
-    let why = admit_lent(kind, flags, count, slots, roots, queue, control, freed);
-    if why != DONE {
+    let mut tables = TablesMut {
+        kind,
+        flags,
+        count,
+        slots,
+        roots,
+        queue,
+        control,
+    };
+    if let Err(why) = admit_lent(&tables, freed) {
         return refuse(why);
     }
-    let answer = finish(kind, flags, count, slots, roots, queue, control, freed);
+    let answer = answered(finish(&mut tables, freed));
     end_list(freed, answer);
     answer
 }

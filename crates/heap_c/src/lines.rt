@@ -4,6 +4,7 @@ ghost use Rattle.rules.specs.Heap.{tables};
 ghost use Rattle.session.specs.Taking.{BytesTaken, InputEnded};
 
 use csv_text::reader::Reader;
+use rules::tables::TablesMut;
 use session::{Progress, end, take};
 
 #[unsafe(no_mangle)]
@@ -26,9 +27,16 @@ pub extern "C" fn vek_take(
         out.new result }
     ensures written_bound { result.written ≤ 31 * result.taken }
 {
-    take(
-        kind, flags, count, slots, roots, queue, control, reader, bytes, out,
-    )
+    let mut tables = TablesMut {
+        kind,
+        flags,
+        count,
+        slots,
+        roots,
+        queue,
+        control,
+    };
+    take(&mut tables, reader, bytes, out)
 }
 
 #[unsafe(no_mangle)]
@@ -49,7 +57,14 @@ pub extern "C" fn vek_end(
         (tables kind.new flags.new count.new slots.new roots.new queue.new control.new)
         out.new result }
 {
-    end(
-        kind, flags, count, slots, roots, queue, control, reader, out,
-    )
+    let mut tables = TablesMut {
+        kind,
+        flags,
+        count,
+        slots,
+        roots,
+        queue,
+        control,
+    };
+    end(&mut tables, reader, out)
 }

@@ -6,8 +6,10 @@ ghost use Rattle.rules.specs.Refusals.Call.{FRESH, NEW};
 
 use crate::freed::{admit_lent, end_list};
 use allocation::{fresh, new};
-use answers::refuse;
-use rules::{Answer, DONE, SIZE};
+use answers::{answered, refuse};
+use rules::Answer;
+use rules::refusal::Refusal;
+use rules::tables::TablesMut;
 use soundness::fits;
 
 #[unsafe(no_mangle)]
@@ -24,10 +26,19 @@ pub extern "C" fn vek_fresh(
         (tables kind.old flags.old count.old slots.old roots.old queue.old control.old) []
         (tables kind.new flags.new count.new slots.new roots.new queue.new control.new) [] result }
 {
-    if !fits(kind, flags, count, slots, roots, queue, control) {
-        return refuse(SIZE);
+    let mut tables = TablesMut {
+        kind,
+        flags,
+        count,
+        slots,
+        roots,
+        queue,
+        control,
+    };
+    if !fits(tables.shared()) {
+        return refuse(Refusal::Size);
     }
-    fresh(kind, flags, count, slots, roots, queue, control)
+    fresh(&mut tables)
 }
 
 #[unsafe(no_mangle)]
@@ -48,13 +59,19 @@ pub extern "C" fn vek_new(
         (tables kind.old flags.old count.old slots.old roots.old queue.old control.old) freed.old
         (tables kind.new flags.new count.new slots.new roots.new queue.new control.new) freed.new result }
 {
-    let why = admit_lent(kind, flags, count, slots, roots, queue, control, freed);
-    if why != DONE {
+    let mut tables = TablesMut {
+        kind,
+        flags,
+        count,
+        slots,
+        roots,
+        queue,
+        control,
+    };
+    if let Err(why) = admit_lent(&tables, freed) {
         return refuse(why);
     }
-    let answer = new(
-        kind, flags, count, slots, roots, queue, control, root, wanted, finalizer,
-    );
+    let answer = answered(new(&mut tables, root, wanted, finalizer));
     end_list(freed, answer);
     answer
 }

@@ -5,7 +5,8 @@ ghost use Rattle.rules.specs.Refusals.Call.{COLLECT};
 
 use crate::freed::{admit_lent, end_list};
 use answers::refuse;
-use rules::{Answer, DONE};
+use rules::Answer;
+use rules::tables::TablesMut;
 use sweep::collect;
 
 #[unsafe(no_mangle)]
@@ -23,11 +24,19 @@ pub extern "C" fn vek_collect(
         (tables kind.old flags.old count.old slots.old roots.old queue.old control.old) freed.old
         (tables kind.new flags.new count.new slots.new roots.new queue.new control.new) freed.new result }
 {
-    let why = admit_lent(kind, flags, count, slots, roots, queue, control, freed);
-    if why != DONE {
+    let mut tables = TablesMut {
+        kind,
+        flags,
+        count,
+        slots,
+        roots,
+        queue,
+        control,
+    };
+    if let Err(why) = admit_lent(&tables, freed) {
         return refuse(why);
     }
-    let answer = collect(kind, flags, count, slots, roots, queue, control, freed);
+    let answer = collect(&mut tables, freed);
     end_list(freed, answer);
     answer
 }

@@ -4,8 +4,9 @@ ghost use Rattle.rules.specs.Calls.{Did};
 ghost use Rattle.rules.specs.Refusals.Call.{CLEAR, COPY, LOAD, STORE};
 
 use crate::freed::{admit_lent, end_list};
-use answers::refuse;
-use rules::{Answer, DONE};
+use answers::{answered, refuse};
+use rules::Answer;
+use rules::tables::TablesMut;
 use writes::{clear, copy, load, store};
 
 #[unsafe(no_mangle)]
@@ -24,13 +25,19 @@ pub extern "C" fn vek_clear(
         (tables kind.old flags.old count.old slots.old roots.old queue.old control.old) freed.old
         (tables kind.new flags.new count.new slots.new roots.new queue.new control.new) freed.new result }
 {
-    let why = admit_lent(kind, flags, count, slots, roots, queue, control, freed);
-    if why != DONE {
+    let mut tables = TablesMut {
+        kind,
+        flags,
+        count,
+        slots,
+        roots,
+        queue,
+        control,
+    };
+    if let Err(why) = admit_lent(&tables, freed) {
         return refuse(why);
     }
-    let answer = clear(
-        kind, flags, count, slots, roots, queue, control, freed, root,
-    );
+    let answer = answered(clear(&mut tables, freed, root));
     end_list(freed, answer);
     answer
 }
@@ -52,13 +59,19 @@ pub extern "C" fn vek_copy(
         (tables kind.old flags.old count.old slots.old roots.old queue.old control.old) freed.old
         (tables kind.new flags.new count.new slots.new roots.new queue.new control.new) freed.new result }
 {
-    let why = admit_lent(kind, flags, count, slots, roots, queue, control, freed);
-    if why != DONE {
+    let mut tables = TablesMut {
+        kind,
+        flags,
+        count,
+        slots,
+        roots,
+        queue,
+        control,
+    };
+    if let Err(why) = admit_lent(&tables, freed) {
         return refuse(why);
     }
-    let answer = copy(
-        kind, flags, count, slots, roots, queue, control, freed, to, from,
-    );
+    let answer = answered(copy(&mut tables, freed, to, from));
     end_list(freed, answer);
     answer
 }
@@ -81,13 +94,19 @@ pub extern "C" fn vek_load(
         (tables kind.old flags.old count.old slots.old roots.old queue.old control.old) freed.old
         (tables kind.new flags.new count.new slots.new roots.new queue.new control.new) freed.new result }
 {
-    let why = admit_lent(kind, flags, count, slots, roots, queue, control, freed);
-    if why != DONE {
+    let mut tables = TablesMut {
+        kind,
+        flags,
+        count,
+        slots,
+        roots,
+        queue,
+        control,
+    };
+    if let Err(why) = admit_lent(&tables, freed) {
         return refuse(why);
     }
-    let answer = load(
-        kind, flags, count, slots, roots, queue, control, freed, to, object, slot,
-    );
+    let answer = answered(load(&mut tables, freed, to, object, slot));
     end_list(freed, answer);
     answer
 }
@@ -110,13 +129,19 @@ pub extern "C" fn vek_store(
         (tables kind.old flags.old count.old slots.old roots.old queue.old control.old) freed.old
         (tables kind.new flags.new count.new slots.new roots.new queue.new control.new) freed.new result }
 {
-    let why = admit_lent(kind, flags, count, slots, roots, queue, control, freed);
-    if why != DONE {
+    let mut tables = TablesMut {
+        kind,
+        flags,
+        count,
+        slots,
+        roots,
+        queue,
+        control,
+    };
+    if let Err(why) = admit_lent(&tables, freed) {
         return refuse(why);
     }
-    let answer = store(
-        kind, flags, count, slots, roots, queue, control, freed, object, slot, from,
-    );
+    let answer = answered(store(&mut tables, freed, object, slot, from));
     end_list(freed, answer);
     answer
 }

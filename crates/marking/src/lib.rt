@@ -1,6 +1,8 @@
 // Marking: cells and slots mark each other, nested at most DEPTH deep; a cell met at that depth is noted, and served by a later scan.
 // Marks are bits: the first half of the words has the marked cells, the second the noted ones.
-// Only `unmarked`, `set_marked`, `to_mark`, `note` and the searches for noted cells know how marks are kept.
+// Only `unmarked`, `set_marked`, `to_mark`, `note` and the searches for noted cells know how marks are kept; the sweep knows the first half.
+// `slots` and `marks` stay two slices: `mark_from` and `mark_all` promise what they do of any two that fit, and a struct with that as its invariant would ask for more.
+// `as` widens here: From says no more, and each use of it is a further step for the proof.
 #![tactic(auto)]
 
 ghost use Rattle.std.specs.Prelude.{◌+◌, ◌-◌, ◌*◌, ◌/◌, ◌^◌, ◌≤◌, ◌<◌, ◌++◌, ◌≡◌, length, get_or, replicate};
@@ -10,11 +12,10 @@ ghost use Rattle.rules.specs.Words.{marks_of};
 ghost use Rattle.laws.specs.Marking.Marks.{Within, Slots, ClosedMarks};
 ghost use Rattle.laws.specs.Words.Marks.{WordsFor, HasMarks};
 ghost use Rattle.numbers.specs.Numbers.{AsCell};
-ghost use Rattle.marking.specs.Steps.{cells_of, Unmarked, ToMark, CellMarked, CellNoted, NotedIn};
+ghost use Rattle.marking.specs.Steps.{cells_of, Unmarked, ToMark, CellMarked, CellNoted};
 
-use numbers::cell::{Cell, CellNumber};
-use numbers::slot::{Slot, SlotNumber};
-use words::search::{Found, Rest, from_cell, from_first, next_open};
+use numbers::{Cell, Slot};
+use words::search::{open_cells, open_from};
 
 // How deep cells nest.
 const DEPTH: usize = 16;
@@ -67,8 +68,9 @@ fn mark_cell(slots: &[u16], marks: &mut [u64], cell: Cell, depth: usize)
     ensures { HasMarks (cells_of slots.now) marks.new (mark_cell depth slots.now (marks_of (cells_of slots.now) marks.old) cell.0) }
 {
     set_marked(marks, cell);
+    // by the slot's number, which is what is handed on
     for k in 0..8 {
-        let SlotNumber::Is(slot) = Slot::of(k) else {
+        let Some(slot) = Slot::of(k) else {
             return;
         };
         mark_slot(slots, marks, cell, slot, depth - 1);
@@ -90,45 +92,31 @@ fn mark_slot(slots: &[u16], marks: &mut [u64], cell: Cell, slot: Slot, depth: us
             note(marks, reference);
             return;
         }
-        let CellNumber::Is(named) = Cell::of(reference as usize - 1, slots.len() / 8) else {
+        let Some(named) = Cell::of(reference as usize - 1, slots.len() / 8) else {
             return;
         };
         mark_cell(slots, marks, named, depth);
     }
 }
 
-// The first noted cell of those that are left of a search.
-fn noted_in(marks: &[u64], cells: usize, rest: Rest) -> CellNumber
-    requires words_for { WordsFor cells marks.now × (cells < 2 ^ 63) }
-    requires base_lt_cells { rest.base < cells }
-    ensures { NotedIn marks.now cells rest result }
-{
-    let half = marks.len() / 2;
-    if let Found::Is(cell, _) = next_open(&marks[half..], &marks[..half], cells, rest) {
-        return CellNumber::Is(cell);
-    }
-    CellNumber::Not
-}
-
 // The first noted cell, of so many.
-fn first_noted(marks: &[u64], cells: usize) -> CellNumber
+fn first_noted(marks: &[u64], cells: usize) -> Option<Cell>
     requires { WordsFor cells marks.now × (cells < 2 ^ 63) }
     ensures { AsCell (noted_between (marks_of cells marks.now) 0 cells) cells result }
 {
-    let half = marks.len() / 2;
-    noted_in(marks, cells, from_first(&marks[half..], &marks[..half]))
+    let (marked, noted) = marks.split_at(marks.len() / 2);
+    open_cells(noted, marked, cells).next()
 }
 
 // The next noted cell, from `from` on and round to `from` again.
-fn next_noted(marks: &[u64], cells: usize, from: Cell) -> CellNumber
+fn next_noted(marks: &[u64], cells: usize, from: Cell) -> Option<Cell>
     requires words_for { WordsFor cells marks.now × (cells < 2 ^ 63) }
     requires from_lt_cells { from.0 < cells }
     ensures { AsCell (next_noted (marks_of cells marks.now) from.0) cells result }
 {
-    let half = marks.len() / 2;
-    let rest = from_cell(&marks[half..], &marks[..half], from);
-    if let CellNumber::Is(cell) = noted_in(marks, cells, rest) {
-        return CellNumber::Is(cell);
+    let (marked, noted) = marks.split_at(marks.len() / 2);
+    if let Some(cell) = open_from(noted, marked, cells, from).next() {
+        return Some(cell);
     }
     first_noted(marks, cells)
 }
@@ -140,8 +128,9 @@ fn mark_noted(slots: &[u16], marks: &mut [u64])
     ensures { HasMarks (cells_of slots.now) marks.new (scan_all 16 slots.now (marks_of (cells_of slots.now) marks.old)) }
 {
     let cells = slots.len() / 8;
+    // no `for` over an iterator, which would borrow the marks (the borrow checker): each turn writes them
     let mut next = first_noted(marks, cells);
-    while let CellNumber::Is(cell) = next {
+    while let Some(cell) = next {
         mark_cell(slots, marks, cell, DEPTH);
         next = next_noted(marks, cells, cell);
     }
@@ -155,7 +144,7 @@ fn mark_reference(slots: &[u16], marks: &mut [u64], reference: u16)
     ensures { HasMarks (cells_of slots.now) marks.new (mark_slot 16 slots.now (marks_of (cells_of slots.now) marks.old) reference) }
 {
     if to_mark(marks, reference) {
-        let CellNumber::Is(cell) = Cell::of(reference as usize - 1, slots.len() / 8) else {
+        let Some(cell) = Cell::of(reference as usize - 1, slots.len() / 8) else {
             return;
         };
         mark_cell(slots, marks, cell, DEPTH);
@@ -169,8 +158,8 @@ fn mark_table(slots: &[u16], marks: &mut [u64], table: &[u16])
     requires within { Within (cells_of slots.now) table.now }
     ensures { HasMarks (cells_of slots.now) marks.new (mark_table 16 slots.now (marks_of (cells_of slots.now) marks.old) table.now) }
 {
-    for i in 0..table.len() {
-        mark_reference(slots, marks, table[i]);
+    for &reference in table {
+        mark_reference(slots, marks, reference);
     }
 }
 

@@ -1,26 +1,16 @@
+// A cell's number. `as` narrows here what is known to fit: a TryFrom would leave a way out that is never taken.
 ghost use Rattle.std.specs.Prelude.{◌+◌, ◌<◌, ◌≡◌};
 ghost use Rattle.numbers.specs.Numbers.{AsCell};
 
-// A cell's number, below the number of cells.
+// A cell's number, below the number of cells. That is known only as the program runs, so this is no `Below`.
 #[derive(Clone, Copy)]
 pub struct Cell(usize);
 
-// What a number is as a cell's.
-#[derive(Clone, Copy)]
-pub enum CellNumber {
-    Is(Cell),
-    Not,
-}
-
 impl Cell {
-    pub fn of(x: usize, cells: usize) -> CellNumber
+    pub fn of(x: usize, cells: usize) -> Option<Cell>
         ensures { AsCell x cells result }
     {
-        if x < cells {
-            CellNumber::Is(Cell(x))
-        } else {
-            CellNumber::Not
-        }
+        if x < cells { Some(Cell(x)) } else { None }
     }
 
     pub fn index(self) -> usize

@@ -2,6 +2,14 @@
 // Their fields are private, so that only the range checks make one.
 #![tactic(auto)]
 
-pub mod cell;
-pub mod root;
-pub mod slot;
+mod below;
+mod cell;
+
+pub use below::Below;
+pub use cell::Cell;
+
+// A root's number, 0 to 63.
+pub type Root = Below<64>;
+
+// A slot's number within its cell, 0 to 7.
+pub type Slot = Below<8>;

@@ -10,35 +10,65 @@ use borrow.Author.Tests.{eq-eqb, ne_eqb}
 use lib.Dec.{eqb}
 use lib.ListN.{length, get_or, take, set}
 use lib.Seq.{set-get_or, take-suc-set}
-use Rattle.rules.specs.Heap.{tables, set_count, set_queue, enqueue}
-use Rattle.rules.specs.Release.{Work, decremented, decref, lower, refzero, finalizable}
+use Rattle.rules.specs.Heap.{Heap, tables, queued, kind_of, flags_of, count_of, set_count, set_queue, enqueue}
+use Rattle.rules.specs.Release.{Work, decremented, decref, decrefs, lower, refzero, finalizable}
 use Rattle.laws.specs.Lists.Tests.{and_join, and_no}
+use Rattle.laws.specs.Release.Advance.{Frame, decref_frame, decrefs_frame}
+use Rattle.laws.specs.Release.Onto.{onto, decref_onto, decrefs_onto}
 use Rattle.release.specs.Steps.{working, SharedOff, CameOff}
 
-module _ (k f n q t : List ℕ) (c : ℕ) where
-  pub plain_kind : (get_or k c 0 ≡ 1 → ⊥) → finalizable (tables k f n [] [] q t) c ≡ false
-  unfolding finalizable
-  plain_kind other = rw (ne_eqb (get_or k c 0) 1 other)
+-- ---- taking off doesn't read the work list, nor what was queued: both may stand before
 
-  pub plain_flags_lem : (get_or f c 0 ≡ 1 → ⊥) → finalizable (tables k f n [] [] q t) c ≡ false
+abbrev pub behind : (pending queue : List ℕ) → Work → Work
+behind p q v = record { heap = v.heap; pending = p ++ v.pending; freed = v.freed; queued = q ++ v.queued }
+
+-- v's slots and roots stay, so that they need not be put back
+framed : (p q : List ℕ) (w v : Work) → Frame w v → onto w.heap.slots w.heap.roots p [] q v ≡ behind p q v
+unfolding onto
+framed p q w v fr = λ i. record {
+  heap = tables v.heap.kind v.heap.flags v.heap.count (sym fr.slots i) (sym fr.roots i) v.heap.queue v.heap.control;
+  pending = p ++ v.pending;
+  freed = v.freed;
+  queued = q ++ v.queued;
+}
+
+pub decref_behind : (p q : List ℕ) (w : Work) (r : ℕ) → decref (behind p q w) r ≡ behind p q (decref w r)
+unfolding onto
+decref_behind p q w r = decref_onto w.heap.slots w.heap.roots p [] q w r ∙ framed p q w (decref w r) (decref_frame w r)
+
+pub decrefs_behind : (p q : List ℕ) (w : Work) (l : List ℕ) → decrefs (behind p q w) l ≡ behind p q (decrefs w l)
+unfolding onto
+decrefs_behind p q w l = decrefs_onto w.heap.slots w.heap.roots p [] q w l ∙ framed p q w (decrefs w l) (decrefs_frame w l)
+
+-- ---- which cells are freed
+
+module _ (h : Heap) (c : ℕ) where
+  pub plain_kind : (kind_of h c ≡ 1 → ⊥) → finalizable h c ≡ false
   unfolding finalizable
-  plain_flags_lem other = and_no (eqb (get_or k c 0) 1) (ne_eqb (get_or f c 0) 1 other)
+  plain_kind other = rw (ne_eqb (kind_of h c) 1 other)
+
+  pub plain_flags_lem : (flags_of h c ≡ 1 → ⊥) → finalizable h c ≡ false
+  unfolding finalizable
+  plain_flags_lem other = and_no (eqb (kind_of h c) 1) (ne_eqb (flags_of h c) 1 other)
 
 -- ---- one reference, where others share its cell
 
+-- the tables with other counts
+abbrev pub counting : Heap → List ℕ → Heap
+counting h n = tables h.kind h.flags n h.slots h.roots h.queue h.control
+
 -- the rules' step, by the count that it meets
-decref_at : (k f n s q t : List ℕ) (r m : ℕ) → (r ≡ 0 → ⊥) → get_or n (r - 1) 0 ≡ m
-    → decref (working k f n s q t []) r ≡ lower (working k f n s q t []) (r - 1) (decremented m)
+decref_at : (h : Heap) (r m : ℕ) → (r ≡ 0 → ⊥) → count_of h (r - 1) ≡ m → decref (working h []) r ≡ lower (working h []) (r - 1) (decremented m)
 unfolding decref
-decref_at k f n s q t r m some e =
+decref_at h r m some e =
     let whole : r ≡ suc (r - 1) = omega arith in
-    ap (decref (working k f n s q t [])) whole ∙ ap (λ (x : ℕ). lower (working k f n s q t []) (r - 1) (decremented x)) e
+    ap (decref (working h [])) whole ∙ ap (λ (x : ℕ). lower (working h []) (r - 1) (decremented x)) e
 
 -- an empty reference
 pub shared_none : {n : List ℕ} {r : ℕ} → r ≡ 0 → SharedOff n r n true
 unfolding decref
 shared_none {n} e = record {
-  shared = λ came k f s q t. ap (decref (working k f n s q t [])) e;
+  shared = λ came k f s ro q t. ap (decref (working (tables k f n s ro q t) [])) e;
   kept = λ left. absurd (true≢false left);
   some = λ left. absurd (true≢false left);
   last = λ left. absurd (true≢false left);
@@ -49,11 +79,11 @@ pub shared_many : {n : List ℕ} {r at written : ℕ} → (r ≡ 0 → ⊥) → 
     → SharedOff n r (set n at written) true
 unfolding decremented lower set_count
 shared_many {n} {r} {at} {written} some h place is = record {
-  shared = λ came k f s q t.
+  shared = λ came k f s ro q t.
       let x : ℕ = get_or n (r - 1) 0 in
       let met : x ≡ suc (suc (x - 2)) = omega arith in
       let less : suc (x - 2) ≡ written = omega arith in
-      decref_at k f n s q t r (suc (suc (x - 2))) some met ∙ (λ i. working k f (set n (sym place i) (less i)) s q t []);
+      decref_at (tables k f n s ro q t) r (suc (suc (x - 2))) some met ∙ (λ i. working (tables k f (set n (sym place i) (less i)) s ro q t) []);
   kept = λ left. absurd (true≢false left);
   some = λ left. absurd (true≢false left);
   last = λ left. absurd (true≢false left);
@@ -63,54 +93,56 @@ shared_many {n} {r} {at} {written} some h place is = record {
 pub shared_last : {n : List ℕ} {r : ℕ} → (r ≡ 0 → ⊥) → get_or n (r - 1) 0 ≤ 1 → SharedOff n r n false
 shared_last some few = record { shared = λ came. absurd (true≢false (sym came)); kept = λ left. refl; some = λ left. omega arith; last = λ left. few }
 
+pub shared_is : (h : Heap) {n : List ℕ} {r : ℕ} {off : Bool} → SharedOff h.count r n off → off ≡ true → decref (working h []) r ≡ working (counting h n) []
+shared_is h s came = s.shared came h.kind h.flags h.slots h.roots h.queue h.control
+
 -- ---- what came off, and the work list
 
 -- where nothing is to come off
-pub came_off_nothing : (k f n q t before : List ℕ) (tail : ℕ) → tail ≤ length before → CameOff (working k f n [] q t []) n q t before tail before tail
-came_off_nothing k f n q t before tail bound = record { count = refl; queue = refl; control = refl; listed = sym (append-nil _); bound = bound }
+pub came_off_nothing : (h : Heap) (before : List ℕ) (tail : ℕ) → tail ≤ length before → CameOff (working h []) h before tail before tail
+came_off_nothing h before tail bound = record { heap = refl; listed = sym (append-nil _); bound = bound }
 
 -- others share the cell
-pub came_off_shared : (k f : List ℕ) {n n' q t before : List ℕ} {tail r : ℕ} {off : Bool} → tail ≤ length before → SharedOff n r n' off → off ≡ true
-    → CameOff (decref (working k f n [] q t []) r) n' q t before tail before tail
-came_off_shared k f {n} {n'} {q} {t} {before} {tail} bound s came =
-    subst⁻¹ (λ (w : Work). CameOff w n' q t before tail before tail) (s.shared came k f [] q t) (came_off_nothing k f n' q t before tail bound)
+pub came_off_shared : (h : Heap) {n before : List ℕ} {tail r : ℕ} {off : Bool} → tail ≤ length before → SharedOff h.count r n off → off ≡ true
+    → CameOff (decref (working h []) r) (counting h n) before tail before tail
+came_off_shared h {n} {before} {tail} bound s came =
+    subst⁻¹ (λ (w : Work). CameOff w (counting h n) before tail before tail) (shared_is h s came) (came_off_nothing (counting h n) before tail bound)
 
-module _ (k f n q t before : List ℕ) (tail : ℕ) (bound : tail ≤ length before) (r : ℕ) (some : r ≡ 0 → ⊥) where
+module _ (h : Heap) (before : List ℕ) (tail : ℕ) (bound : tail ≤ length before) (r : ℕ) (some : r ≡ 0 → ⊥) where
   -- it falls to zero
-  pub at_zero_lem : (n' q' t' after : List ℕ) (next : ℕ) → get_or n (r - 1) 0 ≡ 1
-      → CameOff (refzero (finalizable (tables k f n [] [] q t) (r - 1)) (working k f n [] q t []) (r - 1)) n' q' t' before tail after next
-      → CameOff (decref (working k f n [] q t []) r) n' q' t' before tail after next
+  pub at_zero_lem : (h' : Heap) (after : List ℕ) (next : ℕ) → count_of h (r - 1) ≡ 1
+      → CameOff (refzero (finalizable h (r - 1)) (working h []) (r - 1)) h' before tail after next
+      → CameOff (decref (working h []) r) h' before tail after next
   unfolding decremented lower
-  at_zero_lem n' q' t' after next e l = subst⁻¹ (λ (w : Work). CameOff w n' q' t' before tail after next) (decref_at k f n [] q t r 1 some e) l
+  at_zero_lem h' after next e l = subst⁻¹ (λ (w : Work). CameOff w h' before tail after next) (decref_at h r 1 some e) l
 
   -- the cell joins the queue
-  pub queues : get_or n (r - 1) 0 ≡ 1 → get_or k (r - 1) 0 ≡ 1 → get_or f (r - 1) 0 ≡ 1
-      → CameOff (refzero (finalizable (tables k f n [] [] q t) (r - 1)) (working k f n [] q t []) (r - 1)) n (set q (get_or t 0 0) r) (set t 0 (get_or t 0 0 + 1)) before tail before tail
+  pub queues : count_of h (r - 1) ≡ 1 → kind_of h (r - 1) ≡ 1 → flags_of h (r - 1) ≡ 1
+      → CameOff (refzero (finalizable h (r - 1)) (working h []) (r - 1))
+      (tables h.kind h.flags h.count h.slots h.roots (set h.queue (queued h) r) (set h.control 0 (queued h + 1))) before tail before tail
   unfolding refzero finalizable set_count enqueue set_queue
   queues last kind flags =
-      let yes : finalizable (tables k f n [] [] q t) (r - 1) ≡ true = and_join (eq-eqb (get_or k (r - 1) 0) 1 kind) (eq-eqb (get_or f (r - 1) 0) 1 flags) in
+      let yes : finalizable h (r - 1) ≡ true = and_join (eq-eqb (kind_of h (r - 1)) 1 kind) (eq-eqb (flags_of h (r - 1)) 1 flags) in
       let whole : r ≡ suc (r - 1) = omega arith in
-      subst⁻¹ (λ (b : Bool). CameOff (refzero b (working k f n [] q t []) (r - 1)) n (set q (get_or t 0 0) r) (set t 0 (get_or t 0 0 + 1)) before tail before tail) yes
+      let still : h.count ≡ set h.count (r - 1) 1 = sym (ap (set h.count (r - 1)) (sym last) ∙ set-get_or h.count (r - 1) 0) in
+      let after : Heap = tables h.kind h.flags h.count h.slots h.roots (set h.queue (queued h) r) (set h.control 0 (queued h + 1)) in
+      subst⁻¹ (λ (b : Bool). CameOff (refzero b (working h []) (r - 1)) after before tail before tail) yes
       (record {
-        count = sym (ap (set n (r - 1)) (sym last) ∙ set-get_or n (r - 1) 0);
-        queue = ap (set q (get_or t 0 0)) whole;
-        control = ap (set t 0) (add-one (get_or t 0 0));
+        heap = λ i. tables h.kind h.flags (still i) h.slots h.roots (set h.queue (queued h) (whole i)) (set h.control 0 (add-one (queued h) i));
         listed = sym (append-nil _);
         bound = bound;
       })
 
   -- the cell joins the work list: the entry `written` at the list's end is its reference
-  pub lists : (written next : ℕ) → written ≡ r → next ≡ tail + 1 → finalizable (tables k f n [] [] q t) (r - 1) ≡ false → tail < length before
-      → CameOff (refzero (finalizable (tables k f n [] [] q t) (r - 1)) (working k f n [] q t []) (r - 1)) (set n (r - 1) 0) q t before tail (set before tail written) next
+  pub lists : (written next : ℕ) → written ≡ r → next ≡ tail + 1 → finalizable h (r - 1) ≡ false → tail < length before
+      → CameOff (refzero (finalizable h (r - 1)) (working h []) (r - 1)) (counting h (set h.count (r - 1) 0)) before tail (set before tail written) next
   unfolding refzero set_count
-  lists written next is behind plain room =
+  lists written next is further plain room =
       let named : written ≡ suc (r - 1) = omega arith in
       let end : next ≡ suc tail = omega arith in
-      subst⁻¹ (λ (b : Bool). CameOff (refzero b (working k f n [] q t []) (r - 1)) (set n (r - 1) 0) q t before tail (set before tail written) next) plain
+      subst⁻¹ (λ (b : Bool). CameOff (refzero b (working h []) (r - 1)) (counting h (set h.count (r - 1) 0)) before tail (set before tail written) next) plain
       (record {
-        count = refl;
-        queue = refl;
-        control = refl;
+        heap = refl;
         listed =
             ap (λ (i : ℕ). take i (set before tail written)) end ∙ take-suc-set before tail written room
             ∙ ap (λ (x : ℕ). take tail before ++ (x ∷ [])) named;

@@ -7,19 +7,13 @@ use lib.IntN.{ℤ, pos, negsuc, nat_abs}
 use lib.ListN.{length, length-append}
 use lib.Signed.{mag}
 use Rattle.csv_text.specs.Decimal.{decimal_of, field_text, last_text}
-use Rattle.csv_text.proofs.Decimal.{decimal_digits}
+use Rattle.csv_text.proofs.Decimal.{decimal_digits, field_width, last_width}
 use Rattle.rules.specs.declared.audit.Row.{Row}
 use Rattle.rules.specs.Audit.{cell_row}
 use Rattle.rules.specs.AuditReport.{signed_field, columns, cell_line, heap_line, totals_line}
 use Rattle.rules.specs.Audit.{Holds}
 
--- a number of at most k + 1 digits, with what stands after it
-field_width : (k n : ℕ) → n < 10 ^ suc k → length (field_text n) ≤ k + 2
-field_width k n h = omega (arith, length-append (decimal_of n) (44 ∷ []), decimal_digits k n h)
-
-last_width : (k n : ℕ) → n < 10 ^ suc k → length (last_text n) ≤ k + 3
-last_width k n h = omega (arith, length-append (decimal_of n) (13 ∷ 10 ∷ []), decimal_digits k n h)
-
+-- a sum of at most k + 1 digits, with its sign and a comma
 signed_width : (k : ℕ) (x : ℤ) → nat_abs x < 10 ^ suc k → length (signed_field x) ≤ k + 3
 signed_width k (pos n) h = omega (arith, length-append (decimal_of n) (44 ∷ []), decimal_digits k n h)
 signed_width k (negsuc n) h = omega (arith, length-append (45 ∷ decimal_of (suc n)) (44 ∷ []), decimal_digits k (suc n) h)

@@ -11,6 +11,7 @@ mod piece;
 
 pub use piece::{PIECE, write_piece, write_totals};
 
+// A function and no constant, since its contract says that this is the rules' text.
 pub fn header() -> [u8; 40]
     ensures { result ≡ headerText }
 {

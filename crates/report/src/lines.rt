@@ -1,16 +1,17 @@
 // The lines of a report, put into a buffer one after another. The room is required, not checked: a line that is cut short would be a wrong line.
+// `as` widens here: From says no more, and each use of it is a further step for the proof.
 ghost use Rattle.std.specs.Prelude.{◌+◌, ◌*◌, ◌-◌, ◌≤◌, [], ◌∷◌, ◌++◌, length};
 ghost use Rattle.csv_text.specs.Written.{Wrote};
 ghost use Rattle.rules.specs.AuditReport.{columns, cell_line, heap_line, totals_line, cell_lines};
 ghost use Rattle.report.specs.Room.{Room, entry};
 
 use crate::cell::put_cell;
-use crate::columns::{put_column, put_columns};
+use crate::columns::put_columns;
+use csv_text::COMMA;
 use csv_text::number::put_byte;
+use csv_text::render::put_field;
 use rules::audit::Row;
 use signed::wide;
-
-const COMMA: u8 = 44;
 
 // The most bytes of a cell's line, and of the totals.
 pub const CELL_LINE: usize = 65;
@@ -23,8 +24,8 @@ fn cell_line(out: &mut [u8], at: usize, heap: u64, cell: u64, difference: i32) -
     ensures wrote { Wrote out.old at (cell_line heap cell difference) out.new result }
     ensures upper_bound { result ≤ at + 65 }
 {
-    let a = put_column(out, at, heap);
-    let b = put_column(out, a, cell);
+    let a = put_field(out, at, heap);
+    let b = put_field(out, a, cell);
     put_cell(out, b, wide(difference))
 }
 
@@ -35,10 +36,9 @@ pub fn cell_lines(out: &mut [u8], heap: u64, differences: &[i32], first: usize, 
     ensures upper_bound { result ≤ 65 * (end - first) }
 {
     let mut at = 0;
-    let mut c = first;
-    while c < end {
+    // by the cell's number, which the line says
+    for c in first..end {
         at = cell_line(out, at, heap, c as u64, differences[c]);
-        c += 1;
     }
     at
 }
@@ -58,7 +58,7 @@ pub fn heap_line(out: &mut [u8], heap: u64, row: Row) -> usize
     ensures wrote { Wrote out.old 0 (heap_line heap row) out.new result }
     ensures upper_bound { result ≤ 149 }
 {
-    let a = put_column(out, 0, heap);
+    let a = put_field(out, 0, heap);
     put_row(out, a, row)
 }
 

@@ -10,7 +10,8 @@ const CELLS: usize = 64;
 
 pub const PIECE: usize = CELLS * CELL_LINE;
 
-// How much was written, and the cell that the next piece begins with: all lines are written when it is beyond the heap's own line, which stands for the cell behind the last.
+// How many bytes were written, as a read answers how many it read, and the cell that the next piece begins with: all lines are written when it is beyond
+// the heap's own line, which stands for the cell behind the last. The latter is a number, no Option: the caller compares it with the number of cells, as for the piece before, and any number may be asked for.
 #[derive(Clone, Copy)]
 pub struct Piece {
     pub written: usize,
@@ -34,13 +35,7 @@ pub fn write_piece(out: &mut [u8], heap: u64, row: Row, differences: &[i32], fir
     ensures { PieceWritten heap row differences.now first out.old out.new result }
 {
     let cells = differences.len();
-    if out.len() < PIECE {
-        return Piece {
-            written: 0,
-            next: first,
-        };
-    }
-    if cells < first {
+    if out.len() < PIECE || cells < first {
         return Piece {
             written: 0,
             next: first,

@@ -1,1 +1,2 @@
 pub mod CounterBook
+pub mod Refusing

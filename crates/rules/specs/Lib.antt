@@ -1,5 +1,6 @@
 pub mod Lists
 pub mod Heap
+pub mod Tables
 pub mod Sound
 pub mod Check
 pub mod Reach
@@ -10,6 +11,7 @@ pub mod Depth
 pub mod Words
 pub mod Collect
 pub mod Calls
+pub mod Refused
 pub mod Asked
 pub mod Batch
 pub mod Events

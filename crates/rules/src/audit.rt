@@ -5,7 +5,7 @@ pub const HEAPS_MAX: u64 = 1000;
 
 // The columns of a report, for a cell, a heap or all heaps: cells below, at and above zero, the sum of their differences, lost references, and heaps refused SIZE.
 #[repr(C)]
-#[derive(Clone, Copy)]
+#[derive(Clone, Copy, Default)]
 pub struct Row {
     pub below: u64,
     pub at: u64,
@@ -17,13 +17,13 @@ pub struct Row {
 
 // How many heaps a report has taken, and their rows added up.
 #[repr(C)]
-#[derive(Clone, Copy)]
+#[derive(Clone, Copy, Default)]
 pub struct Report {
     pub heaps: u64,
     pub totals: Row,
 }
 
-// DONE or why the heap was refused, its row, and the report with the heap in it.
+// DONE or why the heap was refused, a number, as C reads it; its row, and the report with the heap in it.
 #[repr(C)]
 #[derive(Clone, Copy)]
 pub struct Audited {

@@ -3,7 +3,7 @@
 // The most records of a batch.
 pub const RECORDS_MAX: usize = 4096;
 
-// The numbers of a call: its own, 1 to 8, and its arguments, unused ones 0.
+// The numbers of a call, as C lends them: its own, 1 to 8, and its arguments, unused ones 0. `steps::call::Call` is the call that they name.
 #[repr(C)]
 #[derive(Clone, Copy)]
 pub struct CallRecord {

@@ -2,7 +2,7 @@
 use native.Mathlib.Omega.{arith}
 use mathlib.Core.Path.{refl, subst⁻¹}
 use mathlib.Core.List.{List, [], ◌∷◌, ◌++◌, map}
-use Rattle.csv_text.specs.declared.reader.Record.{Record}
+use Rattle.csv_text.specs.Lines.{Record}
 use Rattle.rules.specs.Heap.{Heap, fresh}
 use Rattle.rules.specs.Asked.{obey_all}
 use Rattle.rules.specs.Sound.{Sized}

@@ -7,19 +7,16 @@ use mathlib.Core.Bool.{Bool, true, false, cond}
 use lib.Dec.{leb}
 use lib.ListN.{length, take, drop, take-append-drop}
 use lib.Seq.{take-append_seam}
-use Rattle.csv_text.specs.Reading.{reader_start, fed, closed, given, at_end, records}
-use Rattle.csv_text.specs.declared.reader.Record.{Record}
+use Rattle.std.specs.Prelude.{Option, Some, None}
+use Rattle.csv_text.specs.Lines.{Record}
+use Rattle.csv_text.specs.Reading.{Step, reader_start, fed, closed, ended as line_ended, records}
 use Rattle.csv_text.specs.declared.reader.Reader.{Reader}
-use Rattle.csv_text.specs.declared.reader.Step.{Step}
-use Rattle.csv_text.specs.declared.reader.Step.TheVariants.{More, Line}
-use Rattle.csv_text.specs.declared.reader.Last.{Last}
-use Rattle.csv_text.specs.declared.reader.Last.TheVariants.{Nothing, Final}
 use Rattle.csv_text.proofs.Whole.{reads_all}
 use Rattle.rules.specs.Heap.{Heap}
 use Rattle.rules.specs.Asked.{obey_all}
 use Rattle.session.specs.declared.taking.Progress.{Progress}
 use Rattle.session.specs.Session.{line_for, session, after_all}
-use Rattle.session.specs.Taking.{heap_after, reader_after, text_for, State, begun, advance, takes, ends, Gave}
+use Rattle.session.specs.Taking.{heap_after, text_for, State, begun, advance, takes, ends, Gave}
 use Rattle.session.specs.Deliveries.{Took, Delivered, AnyDeliveries}
 use Rattle.session.specs.Deliveries.Delivered.{handed, again, ended}
 use Rattle.session.proofs.Session.{session_append, after-append}
@@ -59,30 +56,20 @@ went_nowhere x bytes = record {
   text = sym (append-nil x.text);
 }
 
--- the line that a byte ends, if it ends one
-unfoldable ending : Step → List Record
-ending (More s) = []
-ending (Line l) = l ∷ []
+-- one byte, by the line that it ends, if it ends one
+byte_heap : (h : Heap) (line : Option Record) → heap_after h line ≡ after_all h (line_ended line)
+unfolding heap_after line_ended obey_all
+byte_heap h None = refl
+byte_heap h (Some l) = refl
 
--- one byte
-byte_read : (step : Step) (after : Reader → List Record) → given step after ≡ ending step ++ after (reader_after step)
-unfolding given ending reader_after
-byte_read (More s) after = refl
-byte_read (Line l) after = refl
+byte_text : (h : Heap) (line : Option Record) → text_for h line ≡ session h (line_ended line)
+unfolding text_for line_ended session
+byte_text h None = refl
+byte_text h (Some l) = sym (append-nil (line_for h l))
 
-byte_heap : (h : Heap) (step : Step) → heap_after h step ≡ after_all h (ending step)
-unfolding heap_after ending obey_all
-byte_heap h (More s) = refl
-byte_heap h (Line l) = refl
-
-byte_text : (h : Heap) (step : Step) → text_for h step ≡ session h (ending step)
-unfolding text_for ending session
-byte_text h (More s) = refl
-byte_text h (Line l) = sym (append-nil (line_for h l))
-
-took_byte : (s : Reader) (h : Heap) (b : ℕ) → Took s h (b ∷ []) (reader_after (fed s b)) (heap_after h (fed s b))
+took_byte : (s : Reader) (h : Heap) (b : ℕ) → Took s h (b ∷ []) (fed s b).0 (heap_after h (fed s b).1)
 unfolding records
-took_byte s h b = record { lines = ending (fed s b); read = λ rest. byte_read (fed s b) (records rest); heap = byte_heap h (fed s b) }
+took_byte s h b = record { lines = line_ended (fed s b).1; read = λ rest. refl; heap = byte_heap h (fed s b).1 }
 
 went_byte : (x y : State) (b : ℕ) (rest : List ℕ) → Went (advance x (fed x.reader b)) rest y → Went x (b ∷ rest) y
 unfolding advance took_byte took_more
@@ -94,12 +81,12 @@ went_byte x y b rest w =
       n = suc w.n;
       count = omega (arith, w.count);
       most = omega (arith, w.most);
-      taken = took_more x.reader (reader_after step) y.reader (b ∷ []) (take w.n rest) h (heap_after h step) y.heap (took_byte x.reader h b) w.taken;
+      taken = took_more x.reader step.0 y.reader (b ∷ []) (take w.n rest) h (heap_after h step.1) y.heap (took_byte x.reader h b) w.taken;
       text =
-          w.text ∙ append_assoc x.text (text_for h step) (session (heap_after h step) lines)
-          ∙ ap (λ (t : List ℕ). x.text ++ (t ++ session (heap_after h step) lines)) (byte_text h step)
-          ∙ ap (λ (k : Heap). x.text ++ (session h (ending step) ++ session k lines)) (byte_heap h step)
-          ∙ ap (λ (t : List ℕ). x.text ++ t) (sym (session_append h (ending step) lines));
+          w.text ∙ append_assoc x.text (text_for h step.1) (session (heap_after h step.1) lines)
+          ∙ ap (λ (t : List ℕ). x.text ++ (t ++ session (heap_after h step.1) lines)) (byte_text h step.1)
+          ∙ ap (λ (k : Heap). x.text ++ (session h (line_ended step.1) ++ session k lines)) (byte_heap h step.1)
+          ∙ ap (λ (t : List ℕ). x.text ++ t) (sym (session_append h (line_ended step.1) lines));
     }
 
 pub went : (room : ℕ) (x : State) (bytes : List ℕ) → Went x bytes (takes room x bytes)
@@ -146,17 +133,17 @@ record EndWent (s : Reader) (h : Heap) (y : State) : Type 0 where
   text : y.text ≡ session h lines
 
 end_went : (room : ℕ) (h : Heap) (s : Reader) → EndWent s h (ends room h s (closed s))
-unfolding ends records closed at_end obey_all session
+unfolding ends records closed line_ended obey_all session
 end_went room h s = go (closed s) (leb 31 room) refl refl
   where
-    go : (last : Last) (t : Bool) → closed s ≡ last → leb 31 room ≡ t → EndWent s h (ends room h s last)
-    go Nothing t e f = record { lines = []; read = ap at_end e; heap = refl; text = refl }
-    go (Final l) true e f =
-        rw f (record { lines = l ∷ []; read = ap at_end e; heap = refl; text = sym (append-nil (line_for h l)) })
-    go (Final l) false e f = rw f (record { lines = []; read = refl; heap = refl; text = refl })
+    go : (last : Option Record) (t : Bool) → closed s ≡ last → leb 31 room ≡ t → EndWent s h (ends room h s last)
+    go None t e f = record { lines = []; read = ap line_ended e; heap = refl; text = refl }
+    go (Some l) true e f =
+        rw f (record { lines = l ∷ []; read = ap line_ended e; heap = refl; text = sym (append-nil (line_for h l)) })
+    go (Some l) false e f = rw f (record { lines = []; read = refl; heap = refl; text = refl })
 
 delivered_from : {s : Reader} {h m : Heap} {input w : List ℕ} → Delivered s h input w m → From s h input w m
-unfolding records closed at_end session obey_all
+unfolding records closed line_ended session obey_all
 delivered_from (handed {s} {h} {k} {m} bytes later before after r {w} g d) =
     let y : State = takes (length before) (begun h s) bytes in
     let v : Went (begun h s) bytes y = went (length before) (begun h s) bytes in

@@ -8,10 +8,10 @@ use lib.Dec.{leb}
 use lib.ListN.{length}
 use lib.Seq.{take_all}
 use borrow.Author.Tests.{leb-false, le-leb}
+use Rattle.std.specs.Prelude.{Option, Some, None}
+use Rattle.csv_text.specs.Lines.{Record}
 use Rattle.csv_text.specs.Reading.{reader_start, fed, closed}
 use Rattle.csv_text.specs.declared.reader.Reader.{Reader}
-use Rattle.csv_text.specs.declared.reader.Last.{Last}
-use Rattle.csv_text.specs.declared.reader.Last.TheVariants.{Nothing, Final}
 use Rattle.rules.specs.Heap.{Heap}
 use Rattle.session.specs.declared.taking.Progress.{Progress}
 use Rattle.session.specs.Taking.{State, begun, advance, takes, ends, BytesTaken}
@@ -68,10 +68,10 @@ takes_some_lem room h s (b ∷ rest) l m =
     let first : State = advance (begun h s) (fed s b) in
     rw (le-leb (0 + 31) room (omega arith)) (omega (arith, (went room first rest).count))
 
-pub end_holds_nothing : (room : ℕ) (h : Heap) (s : Reader) (last : Last) → 31 ≤ room → (ends room h s last).reader ≡ reader_start
+pub end_holds_nothing : (room : ℕ) (h : Heap) (s : Reader) (last : Option Record) → 31 ≤ room → (ends room h s last).reader ≡ reader_start
 unfolding ends
-end_holds_nothing room h s Nothing l = refl
-end_holds_nothing room h s (Final r) l = rw (le-leb 31 room l) refl
+end_holds_nothing room h s None l = refl
+end_holds_nothing room h s (Some r) l = rw (le-leb 31 room l) refl
 
 pub gets_on : GetsOn
 gets_on = record { takes_some = takes_some_lem; takes_all = takes_all_lem; holds_nothing = λ room h s. end_holds_nothing room h s (closed s) }

@@ -1,5 +1,4 @@
 pub mod Session
-pub mod Sizes
 pub mod Underway
 pub mod Delivery
 pub mod GettingOn

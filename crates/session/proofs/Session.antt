@@ -1,7 +1,7 @@
 -- Laws of a session: lines after lines. Assumes nothing.
 use mathlib.Core.Path.{◌≡◌, refl, sym, ◌∙◌, ap}
 use mathlib.Core.List.{List, [], ◌∷◌, ◌++◌, append_assoc}
-use Rattle.csv_text.specs.declared.reader.Record.{Record}
+use Rattle.csv_text.specs.Lines.{Record}
 use Rattle.rules.specs.Heap.{Heap}
 use Rattle.rules.specs.Asked.{obey_all}
 use Rattle.session.specs.Session.{line_for, after_line, session, after_all}

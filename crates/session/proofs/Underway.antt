@@ -8,15 +8,11 @@ use mathlib.Core.Bool.{false}
 use lib.ListN.{length, get_or, drop, drop_of_length-le}
 use lib.Seq.{sets-eq, drop-cons}
 use borrow.Author.Tests.{le-leb, lt-leb}
-use Rattle.csv_text.specs.Reading.{reader_start, fed}
+use Rattle.std.specs.Prelude.{Option, Some, None, Ok, Err}
+use Rattle.csv_text.specs.Lines.{Record}
+use Rattle.csv_text.specs.Reading.{Step, reader_start, fed}
 use Rattle.csv_text.specs.Written.{Wrote}
-use Rattle.csv_text.specs.declared.reader.Record.{Record}
-use Rattle.csv_text.specs.declared.reader.Record.TheVariants.{Numbers, Malformed}
 use Rattle.csv_text.specs.declared.reader.Reader.{Reader}
-use Rattle.csv_text.specs.declared.reader.Step.{Step}
-use Rattle.csv_text.specs.declared.reader.Step.TheVariants.{More, Line}
-use Rattle.csv_text.specs.declared.reader.Last.{Last}
-use Rattle.csv_text.specs.declared.reader.Last.TheVariants.{Nothing, Final}
 use Rattle.csv_text.proofs.Written.{wrote_nothing, wrote_more}
 use Rattle.rules.specs.Heap.{Heap}
 use Rattle.laws.specs.Calls.Admission.{admission}
@@ -24,41 +20,51 @@ use Rattle.laws.specs.Calls.Asked.{asks_fresh, never_fresh}
 use Rattle.laws.specs.Demand.Step.{admission_kept}
 use Rattle.session.specs.declared.taking.Progress.{Progress}
 use Rattle.session.specs.Session.{asked_of, line_for, after_line}
-use Rattle.session.specs.Taking.{heap_after, reader_after, text_for, State, begun, advance, takes, ends, Gave, BytesTaken, ByteTaken}
+use Rattle.session.specs.Taking.{heap_after, text_for, State, begun, advance, takes, ends, Gave, BytesTaken, ByteTaken}
 
 -- ---- one byte
 
 -- it ends no line
-pub took_held : (s : Step) (t : Reader) (taken : ℕ) (out : List ℕ) (at : ℕ) (h : Heap) (r : Progress) → s ≡ More t
-    → r.reader ≡ t → r.taken ≡ taken → r.written ≡ at → ByteTaken s taken out at h h out r
-unfolding heap_after reader_after text_for
-took_held s t taken out at h r e p q w = subst⁻¹ (λ (x : Step). ByteTaken x taken out at h h out r) e
-    (record { heap = refl; reader = p; count = q; wrote = subst⁻¹ (Wrote out at [] out) w (wrote_nothing out at); room = omega arith })
+pub took_held : (s : Step) (taken : ℕ) (out : List ℕ) (at : ℕ) (h : Heap) (r : Progress) → s.1 ≡ None
+    → r.reader ≡ s.0 → r.taken ≡ taken → r.written ≡ at → ByteTaken s taken out at h h out r
+unfolding heap_after text_for
+took_held s taken out at h r e p q w = record {
+  heap = rw e;
+  reader = p;
+  count = q;
+  wrote = rw e (subst⁻¹ (Wrote out at [] out) w (wrote_nothing out at));
+  room = omega arith;
+}
 
 -- it ends a line, which is answered
-pub took_line : (s : Step) (l : Record) (taken : ℕ) (out : List ℕ) (at : ℕ) (h k : Heap) (end : List ℕ) (r : Progress) → s ≡ Line l
-    → k ≡ after_line h l → r.reader ≡ reader_start → r.taken ≡ taken → Wrote out at (line_for h l) end r.written → r.written ≤ at + 31
+pub took_line : (s : Step) (l : Record) (taken : ℕ) (out : List ℕ) (at : ℕ) (h k : Heap) (end : List ℕ) (r : Progress) → s.1 ≡ Some l
+    → k ≡ after_line h l → r.reader ≡ s.0 → r.taken ≡ taken → Wrote out at (line_for h l) end r.written → r.written ≤ at + 31
     → ByteTaken s taken out at h k end r
-unfolding heap_after reader_after text_for
-took_line s l taken out at h k end r e g p q w m =
-    subst⁻¹ (λ (x : Step). ByteTaken x taken out at h k end r) e (record { heap = g; reader = p; count = q; wrote = w; room = m })
+unfolding heap_after text_for
+took_line s l taken out at h k end r e g p q w m = record {
+  heap = rw e g;
+  reader = p;
+  count = q;
+  wrote = rw e w;
+  room = m;
+}
 
 -- ---- whether the tables are admitted
 
 lines_never_fresh : (l : Record) → asks_fresh (asked_of l) ≡ false
 unfolding asked_of
-lines_never_fresh (Numbers n x y z) = never_fresh n x y z
-lines_never_fresh Malformed = unfold asks_fresh in refl
+lines_never_fresh (Ok n) = never_fresh n.0 n.1 n.2 n.3
+lines_never_fresh (Err e) = unfold asks_fresh in refl
 
-admission_after : (h : Heap) (s : Step) → admission (heap_after h s) ≡ admission h
+admission_after : (h : Heap) (ended : Option Record) → admission (heap_after h ended) ≡ admission h
 unfolding heap_after
-admission_after h (More s) = refl
-admission_after h (Line l) = admission_kept h (asked_of l) (lines_never_fresh l)
+admission_after h None = refl
+admission_after h (Some l) = admission_kept h (asked_of l) (lines_never_fresh l)
 
 -- as before the byte
 pub took_admission : {s : Step} {taken at why : ℕ} {before after : List ℕ} {h k : Heap} {r : Progress}
     → ByteTaken s taken before at h k after r → why ≡ admission h → why ≡ admission k
-took_admission {s} {h = h} t e = e ∙ sym (admission_after h s) ∙ ap admission (sym t.heap)
+took_admission {s} {h = h} t e = e ∙ sym (admission_after h s.1) ∙ ap admission (sym t.heap)
 
 -- ---- what was written, as the whole room shows it
 
@@ -113,10 +119,10 @@ unfolding advance
 underway_byte before h s bytes k m out end p r u less room t =
     let step : Step = fed p.reader (get_or bytes p.taken 0) in
     let x : State = state k p u.text in
-    let same : advance x step ≡ state m r (u.text ++ text_for k step) =
-    λ i. record { heap = sym t.heap i; reader = sym t.reader i; taken = sym t.count i; text = u.text ++ text_for k step } in
+    let same : advance x step ≡ state m r (u.text ++ text_for k step.1) =
+    λ i. record { heap = sym t.heap i; reader = sym t.reader i; taken = sym t.count i; text = u.text ++ text_for k step.1 } in
     record {
-      text = u.text ++ text_for k step;
+      text = u.text ++ text_for k step.1;
       wrote = wrote_more _ _ _ _ _ _ _ _ u.wrote t.wrote;
       room = omega (arith, t.room);
       within = omega (arith, t.count);
@@ -151,20 +157,20 @@ underway_all before h s bytes k out p u all = stopped before h s bytes k out p u
 
 -- ---- the end
 
-pub ended_nothing : (last : Last) (h : Heap) (s : Reader) (out : List ℕ) (r : Progress) → last ≡ Nothing → r.reader ≡ reader_start → r.taken ≡ 0 → r.written ≡ 0
+pub ended_nothing : (last : Option Record) (h : Heap) (s : Reader) (out : List ℕ) (r : Progress) → last ≡ None → r.reader ≡ reader_start → r.taken ≡ 0 → r.written ≡ 0
     → Gave (ends (length out) h s last) out h out r
 unfolding ends
 ended_nothing last h s out r e p q w =
-    subst⁻¹ (λ (x : Last). Gave (ends (length out) h s x) out h out r) e
+    subst⁻¹ (λ (x : Option Record). Gave (ends (length out) h s x) out h out r) e
     (gave (begun h reader_start) out h out r refl p q (subst⁻¹ (Wrote out 0 [] out) w (wrote_nothing out 0)) (omega arith))
 
-pub ended_without_room : (last : Last) (l : Record) (h : Heap) (s : Reader) (out : List ℕ) (r : Progress) → last ≡ Final l → length out < 31
+pub ended_without_room : (last : Option Record) (l : Record) (h : Heap) (s : Reader) (out : List ℕ) (r : Progress) → last ≡ Some l → length out < 31
     → r.reader ≡ s → r.taken ≡ 0 → r.written ≡ 0 → Gave (ends (length out) h s last) out h out r
 unfolding ends
 ended_without_room last l h s out r e full p q w =
     rw (e, lt-leb 31 (length out) full) (gave (begun h s) out h out r refl p q (subst⁻¹ (Wrote out 0 [] out) w (wrote_nothing out 0)) (omega arith))
 
-pub ended_line : (last : Last) (l : Record) (h k : Heap) (s : Reader) (out end : List ℕ) (r : Progress) → last ≡ Final l → 31 ≤ length out
+pub ended_line : (last : Option Record) (l : Record) (h k : Heap) (s : Reader) (out end : List ℕ) (r : Progress) → last ≡ Some l → 31 ≤ length out
     → k ≡ after_line h l → r.reader ≡ reader_start → r.taken ≡ 0 → Wrote out 0 (line_for h l) end r.written → r.written ≤ 31
     → Gave (ends (length out) h s last) out k end r
 unfolding ends

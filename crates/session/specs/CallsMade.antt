@@ -1,7 +1,7 @@
 -- The calls that are made for lines, and the claim that ties them to demand 3.
 -- Assumes nothing: these are definitions.
 use Rattle.std.specs.Prelude.{ℕ, ◌≡◌, List, [], ◌∷◌, ◌++◌, map}
-use Rattle.csv_text.specs.declared.reader.Record.{Record}
+use Rattle.csv_text.specs.Lines.{Record}
 use Rattle.rules.specs.Heap.{Heap}
 use Rattle.rules.specs.Events.{Event, Trace, Between, left, Begins, run}
 use Rattle.rules.specs.Events.Request.{asked}

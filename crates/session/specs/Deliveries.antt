@@ -1,9 +1,8 @@
 -- Document 02, Q-1: an input that arrives in deliveries of any size, "an empty delivery among them".
 -- Assumes nothing: these are definitions.
 use Rattle.std.specs.Prelude.{ℕ, zero, suc, ◌+◌, ◌*◌, ◌≤◌, ◌≡◌, List, [], ◌∷◌, ◌++◌, length, take, drop}
-use Rattle.csv_text.specs.Lines.{records_of}
+use Rattle.csv_text.specs.Lines.{Record, records_of}
 use Rattle.csv_text.specs.Reading.{reader_start, closed, records}
-use Rattle.csv_text.specs.declared.reader.Record.{Record}
 use Rattle.csv_text.specs.declared.reader.Reader.{Reader}
 use Rattle.rules.specs.Heap.{Heap}
 use Rattle.session.specs.declared.taking.Progress.{Progress}

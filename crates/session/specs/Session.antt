@@ -1,9 +1,8 @@
 -- Document 01, "The program": what each line of the input does, and the output line that it gets.
 -- Assumes nothing: these are definitions.
-use Rattle.std.specs.Prelude.{ℕ, List, [], ◌∷◌, ◌++◌, map, cond, eqb}
+use Rattle.std.specs.Prelude.{ℕ, List, [], ◌∷◌, ◌++◌, map, cond, eqb, Ok, Err}
 use Rattle.csv_text.specs.Decimal.{rendered}
-use Rattle.csv_text.specs.declared.reader.Record.{Record}
-use Rattle.csv_text.specs.declared.reader.Record.TheVariants.{Numbers, Malformed}
+use Rattle.csv_text.specs.Lines.{Record}
 use Rattle.rules.specs.declared.Answer.{Answer}
 use Rattle.rules.specs.Heap.{Heap}
 use Rattle.rules.specs.Asked.{Asked, call_of, obey, obey_all}
@@ -11,13 +10,13 @@ use Rattle.rules.specs.Asked.Asked.{LINE}
 
 -- what a line asks for: "the call's number 1 to 8, then its arguments"; "any other line" is LINE
 unfoldable pub asked_of : Record → Asked
-asked_of (Numbers n x y z) = call_of n x y z
-asked_of Malformed = LINE
+asked_of (Ok n) = call_of n.0 n.1 n.2 n.3
+asked_of (Err e) = LINE
 
 -- the number at the front of a line, if it has one
 unfoldable pub number_of : Record → ℕ
-number_of (Numbers n x y z) = n
-number_of Malformed = 0
+number_of (Ok n) = n.0
+number_of (Err e) = 0
 
 -- the output line of call n with this answer: refused 11 "with 0 as its call"
 abbrev pub line_of : ℕ → Answer → List ℕ

@@ -1,31 +1,24 @@
 -- Document 02, Q-1: what is taken of the bytes that have come, what is written for them, and what is held. The room for answers is the caller's: a byte is
 -- taken only while the answer that it may call for has room.
 -- Assumes nothing: these are definitions.
-use Rattle.std.specs.Prelude.{ℕ, ◌+◌, ◌≤◌, ◌≡◌, List, [], ◌∷◌, ◌++◌, cond, leb, length, drop}
-use Rattle.csv_text.specs.Reading.{reader_start, fed, closed}
+use Rattle.std.specs.Prelude.{ℕ, ◌+◌, ◌≤◌, ◌≡◌, List, [], ◌∷◌, ◌++◌, cond, leb, length, drop, Option, Some, None}
+use Rattle.csv_text.specs.Lines.{Record}
+use Rattle.csv_text.specs.Reading.{Step, reader_start, fed, closed}
 use Rattle.csv_text.specs.Written.{Wrote}
 use Rattle.csv_text.specs.declared.reader.Reader.{Reader}
-use Rattle.csv_text.specs.declared.reader.Step.{Step}
-use Rattle.csv_text.specs.declared.reader.Step.TheVariants.{More, Line}
-use Rattle.csv_text.specs.declared.reader.Last.{Last}
-use Rattle.csv_text.specs.declared.reader.Last.TheVariants.{Nothing, Final}
 use Rattle.rules.specs.Heap.{Heap}
 use Rattle.session.specs.declared.taking.Progress.{Progress}
 use Rattle.session.specs.Session.{line_for, after_line}
 
--- ---- one byte, by what it gives: "hold back the unfinished line, and give out each finished one"
+-- ---- one byte, by the line that it ends, if it ends one: "hold back the unfinished line, and give out each finished one"
 
-unfoldable pub heap_after : Heap → Step → Heap
-heap_after h (More s) = h
-heap_after h (Line l) = after_line h l
+unfoldable pub heap_after : Heap → Option Record → Heap
+heap_after h None = h
+heap_after h (Some l) = after_line h l
 
-unfoldable pub reader_after : Step → Reader
-reader_after (More s) = s
-reader_after (Line l) = reader_start
-
-unfoldable pub text_for : Heap → Step → List ℕ
-text_for h (More s) = []
-text_for h (Line l) = line_for h l
+unfoldable pub text_for : Heap → Option Record → List ℕ
+text_for h None = []
+text_for h (Some l) = line_for h l
 
 -- ---- the bytes that have come
 
@@ -42,7 +35,7 @@ begun h s = record { heap = h; reader = s; taken = 0; text = [] }
 
 -- a byte more, by what it gives
 unfoldable pub advance : State → Step → State
-advance x s = record { heap = heap_after x.heap s; reader = reader_after s; taken = x.taken + 1; text = x.text ++ text_for x.heap s }
+advance x s = record { heap = heap_after x.heap s.1; reader = s.0; taken = x.taken + 1; text = x.text ++ text_for x.heap s.1 }
 
 -- bytes are taken while an answer, which has at most 31 bytes, has room behind those that are written
 unfoldable pub takes : ℕ → State → List ℕ → State
@@ -52,9 +45,9 @@ takes room x (b ∷ rest) = cond (leb (length x.text + 31) room) (takes room (ad
 -- ---- the end: "Ending the input closes an unfinished line; nothing is held after that"
 
 -- by what the end gives; without room for an answer nothing is done, and the reader stays
-unfoldable pub ends : ℕ → Heap → Reader → Last → State
-ends room h s Nothing = begun h reader_start
-ends room h s (Final l) = cond (leb 31 room) (record { heap = after_line h l; reader = reader_start; taken = 0; text = line_for h l }) (begun h s)
+unfoldable pub ends : ℕ → Heap → Reader → Option Record → State
+ends room h s None = begun h reader_start
+ends room h s (Some l) = cond (leb 31 room) (record { heap = after_line h l; reader = reader_start; taken = 0; text = line_for h l }) (begun h s)
 
 -- ---- what a function gives: tables and progress are those of x; its text is at the front of the room, and every byte behind it is as before
 
@@ -73,8 +66,8 @@ InputEnded s h before k after r = Gave (ends (length before) h s (closed s)) bef
 
 -- a byte was taken, the last of `taken`, and what it gives was written at `at`
 pub record ByteTaken (s : Step) (taken : ℕ) (before : List ℕ) (at : ℕ) (h k : Heap) (after : List ℕ) (r : Progress) : Type 0 where
-  pub heap : k ≡ heap_after h s
-  pub reader : r.reader ≡ reader_after s
+  pub heap : k ≡ heap_after h s.1
+  pub reader : r.reader ≡ s.0
   pub count : r.taken ≡ taken
-  pub wrote : Wrote before at (text_for h s) after r.written
+  pub wrote : Wrote before at (text_for h s.1) after r.written
   pub room : r.written ≤ at + 31

@@ -1,114 +1,72 @@
 // Bytes as they come: however they are cut, what is written for them in all is the same.
-ghost use Rattle.std.specs.Prelude.{◌≡◌, ◌+◌, ◌*◌, ◌≤◌, length};
+ghost use Rattle.std.specs.Prelude.{◌≡◌, ◌+◌, ◌*◌, ◌≤◌, ◌<◌, length};
 ghost use Rattle.csv_text.specs.Reading.{fed};
 ghost use Rattle.laws.specs.Calls.Admission.{admission};
-ghost use Rattle.rules.specs.Heap.{tables};
+ghost use Rattle.rules.specs.Refused.{refused};
+ghost use Rattle.rules.specs.Tables.{lent, SameTables};
 ghost use Rattle.session.specs.Taking.{ByteTaken, BytesTaken};
 
 use crate::line::{ANSWER_LEN, answer};
-use csv_text::reader::{Reader, Step, feed, start};
+use csv_text::reader::{Reader, feed};
+use rules::refusal::Refusal;
+use rules::tables::TablesMut;
 use soundness::admit;
 
 // The reader to go on with, how many bytes were taken, and how many were written.
 #[repr(C)]
-#[derive(Clone, Copy)]
+#[derive(Clone, Copy, Default)]
 pub struct Progress {
     pub reader: Reader,
     pub taken: usize,
     pub written: usize,
 }
 
-// One byte, the last of `taken`; if it ends a line, that is answered at `at`.
+// One byte more, behind what `p` says; if it ends a line, that is answered.
 fn take_byte(
-    kind: &mut [u16],
-    flags: &mut [u16],
-    count: &mut [u16],
-    slots: &mut [u16],
-    roots: &mut [u16],
-    queue: &mut [u16],
-    control: &mut [u16],
-    why: u16,
-    reader: Reader,
+    tables: &mut TablesMut,
+    admitted: Result<(), Refusal>,
+    p: Progress,
     byte: u8,
-    taken: usize,
     out: &mut [u8],
-    at: usize,
 ) -> Progress
-    requires why_value { why ≡ admission (tables kind.old flags.old count.old slots.old roots.old queue.old control.old) }
-    requires at_in_bounds { at + 31 ≤ length out.old }
-    ensures { ByteTaken (fed reader byte) taken out.old at
-        (tables kind.old flags.old count.old slots.old roots.old queue.old control.old)
-        (tables kind.new flags.new count.new slots.new roots.new queue.new control.new)
-        out.new result }
+    requires admitted { refused admitted ≡ admission (lent tables.old) }
+    requires taken_bound { p.taken < usize.MAX }
+    requires written_in_bounds { p.written + 31 ≤ length out.old }
+    ensures same { SameTables tables.old tables.new }
+    ensures byte_taken { ByteTaken (fed p.reader byte) (p.taken + 1) out.old p.written (lent tables.old) (lent tables.new) out.new result }
 {
-    match feed(reader, byte) {
-        Step::More(next) => Progress {
-            reader: next,
-            taken,
-            written: at,
+    let (reader, ended) = feed(p.reader, byte);
+    let read = Progress {
+        reader,
+        taken: p.taken + 1,
+        ..p
+    };
+    match ended {
+        Some(said) => Progress {
+            written: answer(tables, admitted, said, out, p.written),
+            ..read
         },
-        Step::Line(said) => {
-            let written = answer(
-                kind, flags, count, slots, roots, queue, control, why, said, out, at,
-            );
-            let nothing = start();
-            Progress {
-                reader: nothing,
-                taken,
-                written,
-            }
-        }
+        None => read,
     }
 }
 
 // Takes bytes while an answer has room in `out`, and answers each line that ends. The heap is checked once: lines leave a sound heap sound, and others as they are.
-pub fn take(
-    kind: &mut [u16],
-    flags: &mut [u16],
-    count: &mut [u16],
-    slots: &mut [u16],
-    roots: &mut [u16],
-    queue: &mut [u16],
-    control: &mut [u16],
-    reader: Reader,
-    bytes: &[u8],
-    out: &mut [u8],
-) -> Progress
-    ensures bytes_taken { BytesTaken reader
-        (tables kind.old flags.old count.old slots.old roots.old queue.old control.old)
-        bytes.now out.old
-        (tables kind.new flags.new count.new slots.new roots.new queue.new control.new)
-        out.new result }
+pub fn take(tables: &mut TablesMut, reader: Reader, bytes: &[u8], out: &mut [u8]) -> Progress
+    ensures same { SameTables tables.old tables.new }
+    ensures bytes_taken { BytesTaken reader (lent tables.old) bytes.now out.old (lent tables.new) out.new result }
     ensures written_bound { result.written ≤ 31 * result.taken }
 {
-    let why = admit(kind, flags, count, slots, roots, queue, control);
+    let admitted = admit(tables);
     let mut p = Progress {
         reader,
         taken: 0,
         written: 0,
     };
-    while p.taken < bytes.len() {
-        let held = p.reader;
-        let taken = p.taken;
-        let at = p.written;
-        if out.len() - at < ANSWER_LEN {
+    for &byte in bytes {
+        if out.len() - p.written < ANSWER_LEN {
             return p;
         }
-        p = take_byte(
-            kind,
-            flags,
-            count,
-            slots,
-            roots,
-            queue,
-            control,
-            why,
-            held,
-            bytes[taken],
-            taken + 1,
-            out,
-            at,
-        );
+        p = take_byte(tables, admitted, p, byte, out);
     }
     p
 }

@@ -1,29 +1,22 @@
 // Signed numbers: a cell's difference, and the two sides of zero, each operation a function of its own. Above these no proof speaks of bits.
+// `as` narrows here what is known to fit: a TryFrom would leave a way out that is never taken.
 #![tactic(auto)]
 
 ghost use Rattle.std.specs.Prelude.{◌≡◌, ◌≤◌, pos, ◌-ℤ◌};
 ghost use Rattle.std.specs.Int.Signed.{lt_z};
 ghost use Rattle.rules.specs.Audit.{up, down};
 
-fn integer(x: u16) -> i32
-    ensures { result ≡ pos x }
-{
-    x as i32
-}
-
 // A cell's stored count minus its counted references: below zero when the stored count is too low.
 pub fn difference(count: u16, counted: u16) -> i32
     ensures { result ≡ pos count -ℤ pos counted }
 {
-    let stored = integer(count);
-    let references = integer(counted);
-    stored - references
+    i32::from(count) - i32::from(counted)
 }
 
 pub fn wide(x: i32) -> i64
     ensures { result ≡ x }
 {
-    x as i64
+    i64::from(x)
 }
 
 pub fn negative(x: i64) -> bool

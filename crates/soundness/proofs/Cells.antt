@@ -1,19 +1,15 @@
--- The tests of one cell, as the code words them: its kind and flags, its count, its slots.
+-- The tests of one cell, as the code words them: its kind and flags, its count.
 -- Assumes nothing.
 use Prim.Native.Nat.{ℕ, zero, suc, ◌<◌}
 use native.Mathlib.Omega.{arith}
-use mathlib.Core.List.{List, []}
+use mathlib.Core.List.{[]}
 use mathlib.Core.Bool.{Bool, beq, true, false, not, cond, ◌&&◌, ◌||◌}
 use mathlib.Core.Path.{◌≡◌, refl, ap, ◌∙◌}
-use lib.Bits.{bit_or}
 use lib.Dec.{leb, eqb}
-use lib.ListN.{length, get_or}
-use borrow.Author.Tests.{eqb-true, ne_eqb, le-leb, leb-true, lt-leb}
-use Rattle.rules.specs.Lists.{all}
+use borrow.Author.Tests.{ne_eqb, le-leb, leb-true, lt-leb}
 use Rattle.rules.specs.Lists as Lists
 use Rattle.rules.specs.Check.{cell_ok}
 use Rattle.laws.specs.Lists.Tests.{tests_agree}
-use Rattle.tally.proofs.Empty.{or_none, or_none_3, zero_at, zero_all}
 use Rattle.soundness.specs.Tests.{shape_ok, count_matches}
 
 -- ---- kind and flags
@@ -69,35 +65,3 @@ count_code k n t = ap (λ (b : Bool). eqb n t && b) (go (eqb k 0) (eqb n 0) ∙ 
     some : (n : ℕ) → not (eqb n 0) ≡ leb 1 n
     some zero = refl
     some (suc n) = rw (ne_eqb (suc n) 0 (λ e. omega arith), le-leb 1 (suc n) (omega arith)) refl
-
--- ---- references joined by `|`
-
-or_none_4 : (a b c d : ℕ) → bit_or (bit_or (bit_or a b) c) d ≡ 0 → (a ≡ 0) × (b ≡ 0) × (c ≡ 0) × (d ≡ 0)
-or_none_4 a b c d e =
-    let abc = or_none (bit_or (bit_or a b) c) d e in
-    let ab = or_none_3 a b c abc.0 in
-    (ab.0, ab.1, ab.2, abc.1)
-
-pub eight : (l : List ℕ) → length l ≡ 8
-    → eqb (bit_or (bit_or (bit_or (bit_or (get_or l 7 0) (get_or l 6 0)) (get_or l 5 0)) (get_or l 4 0)) (bit_or (bit_or (bit_or (get_or l 3 0) (get_or l 2 0)) (get_or l 1 0)) (get_or l 0 0))) 0
-    ≡ all (eqb 0) l
-eight l size =
-    tests_agree _ _
-    (λ t. let e = or_none _ _ (eqb-true _ 0 t) in
-    let last = or_none_4 _ _ _ _ e.0 in
-    let first = or_none_4 _ _ _ _ e.1 in
-    zero_all l (λ i m. each first last i (omega arith)))
-    (λ t. let z : (i : ℕ) → i < 8 → get_or l i 0 ≡ 0 = λ i m. zero_at l t i (omega arith) in
-    rw (z 0 (omega arith), z 1 (omega arith), z 2 (omega arith), z 3 (omega arith), z 4 (omega arith), z 5 (omega arith), z 6 (omega arith), z 7 (omega arith)) refl)
-  where
-    each : (get_or l 3 0 ≡ 0) × (get_or l 2 0 ≡ 0) × (get_or l 1 0 ≡ 0) × (get_or l 0 0 ≡ 0) → (get_or l 7 0 ≡ 0) × (get_or l 6 0 ≡ 0) × (get_or l 5 0 ≡ 0) × (get_or l 4 0 ≡ 0)
-        → (i : ℕ) → i < 8 → get_or l i 0 ≡ 0
-    each f g zero m = f.3
-    each f g (suc zero) m = f.2
-    each f g (suc (suc zero)) m = f.1
-    each f g (suc (suc (suc zero))) m = f.0
-    each f g (suc (suc (suc (suc zero)))) m = g.3
-    each f g (suc (suc (suc (suc (suc zero))))) m = g.2
-    each f g (suc (suc (suc (suc (suc (suc zero)))))) m = g.1
-    each f g (suc (suc (suc (suc (suc (suc (suc zero))))))) m = g.0
-    each f g (suc (suc (suc (suc (suc (suc (suc (suc i)))))))) m = absurd (omega arith)

@@ -1,5 +1,5 @@
 -- What several proofs of the crate cite.
-pub mod Misses
+pub mod Folds
 pub mod Queueing
 pub mod Slots
 pub mod Cells

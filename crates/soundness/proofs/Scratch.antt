@@ -1,13 +1,12 @@
--- The scratch tally of a heap that fits; and the part of the queue behind its length.
+-- The scratch tally of a heap that fits.
 -- Assumes nothing.
-use Prim.Native.Nat.{ℕ, ◌+◌, ◌≤◌, ◌<◌, ◌-◌}
+use Prim.Native.Nat.{ℕ, ◌+◌, ◌≤◌, ◌<◌}
 use native.Mathlib.Omega.{arith}
-use mathlib.Core.List.{List}
-use lib.ListN.{length, take, drop, replicate, length-drop}
+use lib.ListN.{take, replicate}
 use Rattle.rules.specs.Heap.{Heap, cells, queued, entries}
 use Rattle.rules.specs.Sound.{Sized}
 use Rattle.laws.specs.Sound.Reflect.{entries-length}
-use Rattle.tally.proofs.Scratch.{clear_length, clear_at, part_rest}
+use Rattle.tally.proofs.Scratch.{clear_length, clear_at}
 use Rattle.soundness.specs.Tests.{Scratch}
 
 pub scratch : (h : Heap) (k : ℕ) → Sized h → 1024 < k → queued h ≤ cells h
@@ -23,6 +22,3 @@ scratch h k z l few =
       tally_size = omega (arith, clear_length (cells h + 1) k (omega (arith, z.most)));
       clear = clear_at (cells h + 1) k;
     }
-
-pub part_most : (l : List ℕ) (n k : ℕ) → length l ≤ k → length (take (length l - n) (drop n l)) ≤ k
-part_most l n k h = rw part_rest (omega (arith, length-drop n l))

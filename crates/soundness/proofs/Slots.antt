@@ -2,7 +2,7 @@
 -- Assumes nothing.
 use Prim.Native.Nat.{ℕ, ◌≤◌, ◌<◌, ◌+◌, ◌*◌, ◌-◌}
 use native.Mathlib.Omega.{arith}
-use mathlib.Core.List.{List}
+use mathlib.Core.List.{List, []}
 use mathlib.Core.Bool.{true, false}
 use mathlib.Core.Logic.{◌≢◌}
 use mathlib.Core.Path.{◌≡◌, refl, sym, ◌∙◌, ap}
@@ -14,9 +14,10 @@ use borrow.Author.Count.{below_none, below_more}
 use Rattle.rules.specs.Lists.{all, below, dangling}
 use Rattle.rules.specs.Heap.{slots_of}
 use Rattle.laws.specs.Lists.Tests.{tests_agree, clash, below_all, below_at}
-use Rattle.laws.specs.Lists.Tables.{slots_length_lem}
 use Rattle.laws.specs.Sound.Tally.{counters, Tallied, TallyRoom, dangling-length, tallied_none, tallied_zeros, tallied_part, room_after, less_room}
+use Rattle.std.specs.Simd.{first_chunks}
 use Rattle.tally.specs.Tallies.{Tallies}
+use Rattle.tally.proofs.Chunks.{chunk_at}
 use Rattle.soundness.specs.Tests.{slots_ok, slots_at, CellTallied}
 
 -- slotsOk of an object, and of another cell
@@ -62,14 +63,16 @@ module _ (before : List ℕ) (k : ℕ) (s : List ℕ) (wrong : ℕ) where
       }
 
 -- the part of the slots from 8c to 8c + 8
-pub part : (slots : List ℕ) (c : ℕ) → take (8 * c + 8 - 8 * c) (drop (8 * c) slots) ≡ slots_of slots c
+part : (slots : List ℕ) (c : ℕ) → take (8 * c + 8 - 8 * c) (drop (8 * c) slots) ≡ slots_of slots c
 unfolding slots_of
 part slots c =
     let e : 8 * c + 8 - 8 * c ≡ 8 = omega arith in
     rw e refl
 
-pub part_length : (slots : List ℕ) (c n : ℕ) → length slots ≡ 8 * n → c < n → length (take (8 * c + 8 - 8 * c) (drop (8 * c) slots)) ≡ 8
-part_length slots c n size m = ap length (part slots c) ∙ slots_length_lem slots c n size m
+-- the slots cut into eights are the cells'
+pub cell_slots : (slots : List ℕ) (n c : ℕ) → c < n → get_or (first_chunks 8 n slots) c [] ≡ slots_of slots c
+unfolding slots_of
+cell_slots slots n c m = chunk_at 8 n c slots m
 
 -- after c cells: if nothing is wrong so far, their slots are as they may be and tallied, and the other way round
 pub record Slotting (whole kind slots tally : List ℕ) (wrong c : ℕ) : Type 0 where
@@ -98,12 +101,12 @@ module _ {whole kind slots tally : List ℕ} {wrong c : ℕ} (size : length slot
   room_eight m = less_room _ 8 (omega arith) v.room
 
   pub slots_turn : (r : ℕ) (next : List ℕ) → c < length kind → length next ≡ length tally
-      → CellTallied tally next (get_or kind c 0) (take (8 * c + 8 - 8 * c) (drop (8 * c) slots)) wrong r → Slotting whole kind slots next r (c + 1)
+      → CellTallied tally next (get_or kind c 0) (slots_of slots c) wrong r → Slotting whole kind slots next r (c + 1)
   slots_turn r next m kept t =
       let k : 8 * (c + 1) ≡ 8 * c + 8 = omega arith in
-      -- what was found of the cell's part of the slots, said of the cell
-      let here : slots_ok (counters tally) (get_or kind c 0) (take (8 * c + 8 - 8 * c) (drop (8 * c) slots)) ≡ slots_at (counters whole) kind slots c
-      = ap (λ (n : ℕ). slots_ok (n - 1) (get_or kind c 0) (take (8 * c + 8 - 8 * c) (drop (8 * c) slots))) v.size ∙ ap (slots_ok (counters whole) (get_or kind c 0)) (part slots c) in
+      -- what was found of the cell in the tally so far, said of the tally before
+      let here : slots_ok (counters tally) (get_or kind c 0) (slots_of slots c) ≡ slots_at (counters whole) kind slots c
+      = ap (λ (n : ℕ). slots_ok (n - 1) (get_or kind c 0) (slots_of slots c)) v.size in
       record {
         bound = omega arith;
         size = kept ∙ v.size;
@@ -111,7 +114,7 @@ module _ {whole kind slots tally : List ℕ} {wrong c : ℕ} (size : length slot
         room = t.room (8 * (length kind - (c + 1))) (less_room _ _ (omega arith) v.room);
         is = λ e.
             let z : wrong ≡ 0 = omega (arith, t.more) in
-            rw k (tallied_part slots (8 * c) (8 * c + 8) (omega arith) (v.is z) (t.right (e ∙ sym z)).1);
+            rw k (tallied_part slots (8 * c) (8 * c + 8) (omega arith) (v.is z) (rw (part slots c) (t.right (e ∙ sym z)).1));
         passed = λ e.
             let z : wrong ≡ 0 = omega (arith, t.more) in
             below_more _ _ (v.passed z) (sym here ∙ (t.right (e ∙ sym z)).0);

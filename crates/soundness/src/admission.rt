@@ -1,28 +1,24 @@
 // What every call but FRESH asks first.
 ghost use Rattle.std.specs.Prelude.{◌≡◌};
-ghost use Rattle.rules.specs.Heap.{tables};
+ghost use Rattle.rules.specs.Refused.{refused};
+ghost use Rattle.rules.specs.Tables.{lent};
 ghost use Rattle.laws.specs.Calls.Admission.{admission};
 
 use crate::{fits, sound};
-use rules::{DAMAGED, DONE, SIZE};
+use rules::refusal::Refusal;
+use rules::tables::TablesMut;
 
-// SIZE where the tables don't fit N cells, else DAMAGED where the heap is not sound, else DONE.
-pub fn admit(
-    kind: &[u16],
-    flags: &[u16],
-    count: &[u16],
-    slots: &[u16],
-    roots: &[u16],
-    queue: &[u16],
-    control: &[u16],
-) -> u16
-    ensures { result ≡ admission (tables kind.now flags.now count.now slots.now roots.now queue.now control.now) }
+// SIZE where the tables don't fit N cells, else DAMAGED where the heap is not sound.
+pub fn admit(tables: &TablesMut) -> Result<(), Refusal>
+    ensures { refused result ≡ admission (lent tables.now) }
 {
-    if !fits(kind, flags, count, slots, roots, queue, control) {
-        return SIZE;
+    // as they stand, and not handed on by every caller: a value of seven slices would stand in each caller's frame while the heap is checked
+    let tables = tables.shared();
+    if !fits(tables) {
+        return Err(Refusal::Size);
     }
-    if !sound(kind, flags, count, slots, roots, queue, control) {
-        return DAMAGED;
+    if !sound(tables) {
+        return Err(Refusal::Damaged);
     }
-    DONE
+    Ok(())
 }

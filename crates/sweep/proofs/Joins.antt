@@ -5,93 +5,125 @@ use native.Mathlib.Numerals.{add-one}
 use native.Mathlib.Omega.{arith}
 use mathlib.Core.List.{List, [], ◌∷◌, ◌++◌}
 use mathlib.Core.Bool.{Bool, true, false}
-use mathlib.Core.Path.{◌≡◌, refl, sym, ap, subst, ◌∙◌}
+use mathlib.Core.Path.{◌≡◌, refl, sym, ap, subst, subst⁻¹, ◌∙◌}
 use lib.ListN.{length, get_or, set, length-append}
+use Rattle.numbers.specs.declared.cell.Cell.{Cell}
 use Rattle.rules.specs.Lists.{occ, select}
-use Rattle.rules.specs.Heap.{Heap, tables, set_count, set_queue, enqueue}
+use Rattle.rules.specs.Heap.{Heap, tables, cells, queued, set_count, set_queue, enqueue}
+use Rattle.rules.specs.Words.{bits_of}
 use Rattle.rules.specs.Collect.{enqueue_all}
 use Rattle.laws.specs.Lists.Occ.{occ-append, occ_one}
 use Rattle.laws.specs.Lists.Select.{select_only, select_next, select_rest}
 use Rattle.laws.specs.Sound.But.{refit}
 use Rattle.laws.specs.Collect.Phases.{Enqueued, enqueued}
 use Rattle.laws.specs.Collect.Append.{enqueue-append}
-use Rattle.sweep.specs.Phases.{only, QueueRoom, Queued}
+use Rattle.sweep.specs.Phases.{is_finalizable, is_due, due_of, only, QueueRoom, Queued}
+use Rattle.sweep.proofs.Searches.{Turn}
 
-module _ {k f n q w : List ℕ} where
-  -- a cell that isn't due
-  pub queued_none : (c : ℕ) {b : Bool} → b ≡ false → Queued k f n q w (only b c) n q w 0
+-- ---- one cell
+
+module _ {h : Heap} (c : ℕ) {b : Bool} where
+  -- it isn't due
+  pub queued_none : b ≡ false → Queued h (only b c) h 0
   unfolding enqueue_all
-  queued_none c e = record { heap = λ s t. rw e refl; many = rw e refl }
+  queued_none e = record { heap = rw e refl; many = rw e refl }
 
-  -- a cell that is
-  pub queued_one : {n' q' w' : List ℕ} (c : ℕ) {b : Bool} → b ≡ true
-      → n' ≡ set n c (get_or n c 0 + 1) → q' ≡ set q (get_or w 0 0) (c + 1) → w' ≡ set w 0 (get_or w 0 0 + 1) → Queued k f n q w (only b c) n' q' w' 1
+  -- it is: the entries written are those of cell c and of the queue's end, by the numbers that stand there
+  pub queued_one : {i n e r m : ℕ} → b ≡ true → i ≡ c → n ≡ get_or h.count c 0 + 1 → e ≡ queued h → r ≡ c + 1 → m ≡ queued h + 1
+      → Queued h (only b c) (tables h.kind h.flags (set h.count i n) h.slots h.roots (set h.queue e r) (set h.control 0 m)) 1
   unfolding enqueue_all set_count enqueue set_queue
-  queued_one {n'} {q'} {w'} c e en eq ew =
-      let n₁ : n' ≡ set n c (suc (get_or n c 0)) = en ∙ ap (set n c) (add-one (get_or n c 0)) in
-      let q₁ : q' ≡ set q (get_or w 0 0) (suc c) = eq ∙ ap (set q (get_or w 0 0)) (add-one c) in
-      let w₁ : w' ≡ set w 0 (suc (get_or w 0 0)) = ew ∙ ap (set w 0) (add-one (get_or w 0 0)) in
-      record { heap = λ s t. rw e (λ i. tables k f (n₁ i) s t (q₁ i) (w₁ i)); many = rw e refl }
+  queued_one due at more end is longer =
+      let n₁ = more ∙ add-one (get_or h.count c 0) in
+      let r₁ = is ∙ add-one c in
+      let m₁ = longer ∙ add-one (queued h) in
+      record {
+        heap = rw due (λ j. tables h.kind h.flags (set h.count (at j) (n₁ j)) h.slots h.roots (set h.queue (end j) (r₁ j)) (set h.control 0 (m₁ j)));
+        many = rw due refl;
+      }
 
-  -- before the first cell
-  pub queued_start : (p : ℕ → Bool) → Queued k f n q w (select p 0) n q w 0
-  unfolding enqueue_all select
-  queued_start p = record { heap = λ s t. refl; many = refl }
+  -- its count may rise
+  pub count_rises : b ≡ true → QueueRoom h (only b c) → get_or h.count c 0 + 1 < 65536
+  count_rises e room =
+      let one : QueueRoom h (c ∷ []) = subst (λ (b : Bool). QueueRoom h (only b c)) e room in
+      omega (arith, one.small c, occ_one c c refl)
 
-  -- one cell more
-  pub queued_next : {n' q' w' n'' q'' w'' : List ℕ} {r r' : ℕ} (p : ℕ → Bool) (c : ℕ) → Queued k f n q w (select p c) n' q' w' r → Queued k f n' q' w' (only (p c) c) n'' q'' w'' r'
-      → Queued k f n q w (select p (c + 1)) n'' q'' w'' (r + r')
-  queued_next p c a b = rw (select_next p c) (record {
-    heap = λ s t.
-        b.heap s t ∙ ap (λ (h : Heap). enqueue_all h (only (p c) c)) (a.heap s t)
-        ∙ sym (enqueue-append (tables k f n s t q w) (select p c) (only (p c) c));
-    many = omega (arith, a.many, b.many, length-append (select p c) (only (p c) c));
-  })
+-- ---- all cells that pass
+
+-- before the first one
+pub queued_start : {h : Heap} (p : ℕ → Bool) → Queued h (select p 0) h 0
+unfolding enqueue_all select
+queued_start p = record { heap = refl; many = refl }
 
 -- the passed cells and this one are among all
 among : (p : ℕ → Bool) (c n : ℕ) → c < n → (rest : List ℕ) × (select p n ≡ (select p c ++ only (p c) c) ++ rest)
 among p c n h = let r = select_rest p (c + 1) n (omega arith) in (r.0, r.1 ∙ ap (λ (l : List ℕ). l ++ r.0) (select_next p c))
 
-module _ {k f n q w n' q' w' : List ℕ} {r : ℕ} (p : ℕ → Bool) (c : ℕ) (inside : c < length k) (room : QueueRoom k f n q w (select p (length k)))
-    (a : Queued k f n q w (select p c) n' q' w' r) where
-  h : Heap
-  h = tables k f n [] [] q w
+-- those below c joined
+module _ {h g : Heap} {r : ℕ} (p : ℕ → Bool) (c : ℕ) (inside : c < cells h) (room : QueueRoom h (select p (cells h))) (a : Queued h (select p c) g r) where
+  all_cells : (rest : List ℕ) × (select p (cells h) ≡ (select p c ++ only (p c) c) ++ rest)
+  all_cells = among p c (cells h) inside
 
-  all_cells : (rest : List ℕ) × (select p (length k) ≡ (select p c ++ only (p c) c) ++ rest)
-  all_cells = among p c (length k) inside
-
-  sum : length (select p (length k)) ≡ length (select p c) + length (only (p c) c) + length all_cells.0
+  sum : length (select p (cells h)) ≡ length (select p c) + length (only (p c) c) + length all_cells.0
   sum = ap length all_cells.1 ∙ length-append (select p c ++ only (p c) c) all_cells.0 ∙ ap (λ (x : ℕ). x + length all_cells.0) (length-append (select p c) (only (p c) c))
 
-  occs : (x : ℕ) → occ x (select p (length k)) ≡ occ x (select p c) + occ x (only (p c) c) + occ x all_cells.0
+  occs : (x : ℕ) → occ x (select p (cells h)) ≡ occ x (select p c) + occ x (only (p c) c) + occ x all_cells.0
   occs x = ap (occ x) all_cells.1 ∙ occ-append x (select p c ++ only (p c) c) all_cells.0 ∙ ap (λ (y : ℕ). y + occ x all_cells.0) (occ-append x (select p c) (only (p c) c))
 
-  passed : Enqueued h (enqueue_all h (select p c)) (select p c)
-  unfolding h
+  passed : Enqueued h g (select p c)
   passed =
-      enqueued h (select p c) room.fit.control_size (omega (arith, room.room, room.fit.queue_size, sum))
-      (λ x o. omega (arith, room.fit.count_size, select_only p c x o))
-
-  is : tables k f n' [] [] q' w' ≡ enqueue_all h (select p c)
-  unfolding h
-  is = a.heap [] []
+      subst⁻¹ (λ (k : Heap). Enqueued h k (select p c)) a.heap
+      (enqueued h (select p c) room.fit.control_size (omega (arith, room.room, room.fit.queue_size, sum))
+      (λ x o. omega (arith, room.fit.count_size, select_only p c x o)))
 
   -- what the loop's next turn asks
-  pub room_turn : QueueRoom k f n' q' w' (only (p c) c)
-  unfolding h
+  room_turn : QueueRoom g (only (p c) c)
   room_turn = record {
-    fit = refit refl refl (ap (λ (g : Heap). length g.count) is ∙ passed.count_length) (ap (λ (g : Heap). length g.queue) is ∙ passed.queue_length)
-        (ap (λ (g : Heap). length g.control) is ∙ passed.control_length) room.fit;
-    room = omega (arith, room.room, sum, passed.queued_is, ap (λ (g : Heap). get_or g.control 0 0) is);
-    small = λ x. omega (arith, room.small x, occs x, passed.count x, ap (λ (g : Heap). get_or g.count x 0) is);
+    fit = refit (ap length passed.kind) (ap length passed.flags) passed.count_length passed.queue_length passed.control_length room.fit;
+    room = omega (arith, room.room, sum, passed.queued_is, ap length passed.kind);
+    small = λ x. omega (arith, room.small x, occs x, passed.count x);
   }
 
   -- the number queued stays small
-  pub queued_small : r + length (only (p c) c) ≤ 1024
+  queued_small : r + length (only (p c) c) ≤ 1024
   queued_small = omega (arith, a.many, room.room, room.fit.small, sum)
 
--- room for one cell that is due
-pub room_one : {k f n q w : List ℕ} (c : ℕ) {b : Bool} → b ≡ true → QueueRoom k f n q w (only b c) → (get_or w 0 0 < length k) × (get_or n c 0 + 1 < 65536)
-room_one {k} {f} {n} {q} {w} c e room =
-    let one : QueueRoom k f n q w (c ∷ []) = subst (λ (b : Bool). QueueRoom k f n q w (only b c)) e room in
-    (omega (arith, one.room), omega (arith, one.small c, occ_one c c refl))
+  -- one cell more
+  queued_next : {k : Heap} {d : ℕ} → Queued g (only (p c) c) k d → Queued h (select p (suc c)) k (r + d)
+  queued_next b = rw (ap (select p) (sym (add-one c)) ∙ select_next p c) (record {
+    heap = b.heap ∙ ap (λ (k : Heap). enqueue_all k (only (p c) c)) a.heap ∙ sym (enqueue-append h (select p c) (only (p c) c));
+    many = omega (arith, a.many, b.many, length-append (select p c) (only (p c) c));
+  })
+
+-- ---- a turn of the loop
+
+abbrev pub due_in : Heap → List ℕ → ℕ → Bool
+due_in h marked = is_due h.kind h.flags (bits_of (cells h) marked)
+
+module _ {h g : Heap} {used marked : List ℕ} {from r : ℕ} {cell : Cell} {rest : List ℕ} (t : Turn h.kind used marked from cell rest)
+    (room : QueueRoom h (due_of h.kind h.flags (bits_of (cells h) marked)))
+    (a : Queued h (select (due_in h marked) from) g r) where
+  below : Queued h (select (due_in h marked) cell.0) g r
+  below = rw (t.due_passed h.flags) a
+
+  left_as : Enqueued h g (select (due_in h marked) cell.0)
+  left_as = passed (due_in h marked) cell.0 t.inside room below
+
+  pub cell_stands : cell.0 < cells g
+  cell_stands = omega (arith, t.inside, ap length left_as.kind)
+
+  -- kinds and flags are what they were
+  same : is_finalizable g.kind g.flags cell.0 ≡ due_in h marked cell.0
+  same = (λ j. is_finalizable (left_as.kind j) (left_as.flags j) cell.0) ∙ t.due h.flags
+
+  pub cell_room : QueueRoom g (only (is_finalizable g.kind g.flags cell.0) cell.0)
+  cell_room = subst⁻¹ (λ (b : Bool). QueueRoom g (only b cell.0)) same (room_turn (due_in h marked) cell.0 t.inside room below)
+
+  module _ {k : Heap} {d : ℕ} (b : Queued g (only (is_finalizable g.kind g.flags cell.0) cell.0) k d) where
+    one : Queued g (only (due_in h marked cell.0) cell.0) k d
+    one = subst (λ (x : Bool). Queued g (only x cell.0) k d) same b
+
+    pub cell_joins : Queued h (select (due_in h marked) (suc cell.0)) k (r + d)
+    cell_joins = queued_next (due_in h marked) cell.0 t.inside room below one
+
+    pub few_joined : r + d ≤ 1024
+    few_joined = omega (arith, queued_small (due_in h marked) cell.0 t.inside room below, one.many)

@@ -68,24 +68,24 @@ pub taken_off_start : {n : List ℕ} (l : List ℕ) → TakenOff n (take 0 l) n
 unfolding lower_all
 taken_off_start l = record { heap = λ k f s t q w. refl }
 
--- entry i of the table is the slot after the first j
-module _ (slots : List ℕ) (c j i : ℕ) (room : 8 * c + 8 ≤ length slots) (below : j < 8) (is : i ≡ 8 * c + j) where
-  slot_next : take (j + 1) (slots_of slots c) ≡ take j (slots_of slots c) ++ (get_or slots i 0 ∷ [])
+-- entry i of the table, as it stands, is the slot after the first j
+module _ {now : List ℕ} (slots : List ℕ) (same : now ≡ slots) (c j i : ℕ) (room : 8 * c + 8 ≤ length slots) (below : j < 8) (is : i ≡ 8 * c + j) where
+  slot_next : take (j + 1) (slots_of slots c) ≡ take j (slots_of slots c) ++ (get_or now i 0 ∷ [])
   unfolding slots_of
   slot_next =
       ap (λ (x : ℕ). take x (slots_of slots c)) (add-one j)
       ∙ take-suc (slots_of slots c) j 0 (omega (arith, length-take 8 (drop (8 * c) slots), length-drop (8 * c) slots))
-      ∙ ap (λ (x : ℕ). take j (slots_of slots c) ++ (x ∷ [])) (slot_entry slots c j below ∙ ap (λ (x : ℕ). get_or slots x 0) (sym is))
+      ∙ ap (λ (x : ℕ). take j (slots_of slots c) ++ (x ∷ [])) (slot_entry slots c j below ∙ ap (λ (x : ℕ). get_or slots x 0) (sym is) ∙ ap (λ (l : List ℕ). get_or l i 0) (sym same))
 
-  pub taken_off_next : {n n' n'' : List ℕ} → TakenOff n (take j (slots_of slots c)) n' → TakenOff n' (get_or slots i 0 ∷ []) n''
+  pub taken_off_next : {n n' n'' : List ℕ} → TakenOff n (take j (slots_of slots c)) n' → TakenOff n' (get_or now i 0 ∷ []) n''
       → TakenOff n (take (j + 1) (slots_of slots c)) n''
-  taken_off_next a b = rw slot_next (taken_off_then (take j (slots_of slots c)) (get_or slots i 0 ∷ []) a b)
+  taken_off_next a b = rw slot_next (taken_off_then (take j (slots_of slots c)) (get_or now i 0 ∷ []) a b)
 
-  pub covered_next : {n n' : List ℕ} → Covered n (slots_of slots c) → TakenOff n (take j (slots_of slots c)) n' → Covered n' (get_or slots i 0 ∷ [])
+  pub covered_next : {n n' : List ℕ} → Covered n (slots_of slots c) → TakenOff n (take j (slots_of slots c)) n' → Covered n' (get_or now i 0 ∷ [])
   covered_next {n} v a =
       let front : Covered n (take (j + 1) (slots_of slots c)) =
       covered_front (take (j + 1) (slots_of slots c)) (drop (j + 1) (slots_of slots c)) (rw take-append-drop v) in
-      covered_then (take j (slots_of slots c)) (get_or slots i 0 ∷ []) (rw slot_next at front) a
+      covered_then (take j (slots_of slots c)) (get_or now i 0 ∷ []) (rw slot_next at front) a
 
 pub taken_off_all : {n n' : List ℕ} (slots : List ℕ) (c j : ℕ) → 8 ≤ j → TakenOff n (take j (slots_of slots c)) n' → TakenOff n (slots_of slots c) n'
 taken_off_all slots c j b a = rw (take_all j (slots_of slots c) (omega (arith, slots_most slots c))) at a

@@ -1,108 +1,96 @@
 -- Laws of the second round: one cell after another becomes free and is listed.
 -- Assumes nothing.
-use Prim.Native.Nat.{ℕ, suc, ◌+◌, ◌*◌, ◌≤◌, ◌<◌}
+use Prim.Native.Nat.{ℕ, suc, ◌+◌, ◌≤◌, ◌<◌}
+use native.Mathlib.Numerals.{add-one}
 use native.Mathlib.Omega.{arith}
 use mathlib.Core.List.{List, [], ◌∷◌, ◌++◌, map, map-append, append_assoc}
-use mathlib.Core.Bool.{Bool, true, false, true≢false}
-use mathlib.Core.Path.{◌≡◌, refl, sym, ap, subst, ◌∙◌}
+use mathlib.Core.Bool.{Bool}
+use mathlib.Core.Path.{◌≡◌, refl, sym, ap, subst, subst⁻¹, ◌∙◌}
 use lib.ListN.{length, take, set, length-append}
 use lib.Seq.{take-suc-set}
+use Rattle.numbers.specs.declared.cell.Cell.{Cell}
 use Rattle.rules.specs.Lists.{select}
-use Rattle.rules.specs.Heap.{Heap, tables}
+use Rattle.rules.specs.Heap.{Heap, cells, wipe}
+use Rattle.rules.specs.Words.{bits_of}
 use Rattle.rules.specs.Collect.{wipe_all}
 use Rattle.laws.specs.Lists.Select.{select_only, select_once, select_passing}
 use Rattle.laws.specs.Lists.Pigeonhole.{pigeonhole}
 use Rattle.laws.specs.Collect.Wiping.{Wiped, wiped}
 use Rattle.laws.specs.Collect.Append.{wipe-append}
-use Rattle.freeing.specs.Freeing.{CellFreed}
-use Rattle.sweep.specs.Phases.{is_garbage, garbage_of, Same, Lists, Freed}
+use Rattle.sweep.specs.Phases.{is_garbage, Same, Lists, Freed}
+use Rattle.sweep.proofs.Searches.{Turn}
 
--- one entry of a table
-pub set_as : (l : List ℕ) {i e x y : ℕ} → i ≡ e → x ≡ y → set l i x ≡ set l e y
-set_as l at is = λ j. set l (at j) (is j)
-
--- a table with room for every cell, and one with less
-pub lists_all : {k l : List ℕ} → length k ≤ length l → Lists true k l
-lists_all fits = record { room = λ is. fits; asked = λ room. refl }
-
-pub lists_none : {k l : List ℕ} → length l < length k → Lists false k l
-lists_none less = record { room = λ is. absurd (true≢false (sym is)); asked = λ room. absurd (omega arith) }
-
--- tables of the same lengths
-pub lists_on : {listed : Bool} {k k' l l' : List ℕ} → length k' ≡ length k → length l' ≡ length l → Lists listed k l → Lists listed k' l'
+-- as many cells, and a table of the same length
+pub lists_on : {listed : Bool} {n n' : ℕ} {l l' : List ℕ} → n' ≡ n → length l' ≡ length l → Lists listed n l → Lists listed n' l'
 lists_on cells size a = record { room = λ is. omega (arith, a.room is); asked = λ fits. a.asked (omega arith) }
 
-module _ {k f n s : List ℕ} where
-  -- the cell's reference is written at the list's end i, if the table has room for every cell
-  pub freed_one : {k' f' n' s' : List ℕ} (c : ℕ) {l l' : List ℕ} {e i r : ℕ} → CellFreed k f n s c k' f' n' s'
-      → (length k ≤ length l → l' ≡ set l i (c + 1)) → i ≡ e → e ≤ c → c < length k → r ≡ e + 1 → Freed k f n s (c ∷ []) k' f' n' s' l e l' r
-  unfolding wipe_all
-  freed_one c {l} {e = e} z written at few inside next = record {
-    heap = λ t q w. z.heap t q w;
-    many = omega arith;
-    listed = λ room. (λ j. take (next j) (written room j)) ∙ (λ j. take (e + 1) (set l (at j) (c + 1))) ∙ listed_one (omega arith);
+-- the cell's reference is written at the list's end e, if the table has room for every cell
+pub freed_one : {h g : Heap} (c : ℕ) {l l' : List ℕ} {e : ℕ} → g ≡ wipe h c → (cells h ≤ length l → l' ≡ set l e (c + 1)) → e ≤ c → c < cells h
+    → Freed h (c ∷ []) g l e l' (e + 1)
+unfolding wipe_all
+freed_one c {l} {l'} {e} free written few inside = record {
+  heap = free;
+  many = refl;
+  listed = λ room.
+      ap (take (e + 1)) (written room) ∙ (λ j. take (add-one e j) (set l e (add-one c j))) ∙ take-suc-set l e (suc c) (omega arith);
+}
+
+pub freed_start : {h : Heap} (p : ℕ → Bool) (l : List ℕ) → Freed h (select p 0) h l 0 l 0
+unfolding wipe_all select
+freed_start p l = record { heap = refl; many = refl; listed = λ room. refl }
+
+freed_then : {h g k : Heap} {l₀ l₁ l₂ : List ℕ} {e r d : ℕ} (l m : List ℕ) → cells g ≡ cells h → length l₁ ≡ length l₀ → Freed h l g l₀ e l₁ r → Freed g m k l₁ r l₂ d
+    → Freed h (l ++ m) k l₀ e l₂ d
+freed_then {h} {l₀ = l₀} {e = e} l m size room a b = record {
+  heap = b.heap ∙ ap (λ (k : Heap). wipe_all k m) a.heap ∙ sym (wipe-append h l m);
+  many = omega (arith, a.many, b.many, length-append l m);
+  listed = λ fits. b.listed (omega arith) ∙ ap (λ (x : List ℕ). x ++ map suc m) (a.listed fits) ∙ append_assoc (take e l₀) (map suc l) (map suc m)
+      ∙ ap (λ (x : List ℕ). take e l₀ ++ x) (sym (map-append suc l m));
+}
+
+-- the garbage below `from` was wiped and listed: no more cells than were looked at
+pub freed_few : {h g : Heap} (m : List ℕ) {l₀ l₁ : List ℕ} {from r : ℕ} → Freed h (select (is_garbage h.kind m) from) g l₀ 0 l₁ r → r ≤ from
+freed_few {h} m {from = from} a =
+    omega (
+      arith,
+      a.many,
+      pigeonhole from (select (is_garbage h.kind m) from) (select_once (is_garbage h.kind m) from)
+          (λ z o. (select_only (is_garbage h.kind m) from z o).0),
+    )
+
+-- every cell was looked at
+pub all_freed : {h g : Heap} {l m l₀ l₁ : List ℕ} {r end : ℕ} → Freed h l g l₀ 0 l₁ r → l ≡ m → end ≡ r → Freed h m g l₀ 0 l₁ end
+all_freed {h} {g} {l₀ = l₀} {l₁} {r} a e at = rw at (subst (λ (l : List ℕ). Freed h l g l₀ 0 l₁ r) e a)
+
+-- ---- a turn of the loop
+
+abbrev pub garbage_in : Heap → List ℕ → ℕ → Bool
+garbage_in h marked = is_garbage h.kind (bits_of (cells h) marked)
+
+module _ {h g : Heap} {used marked l₀ l₁ : List ℕ} {from r : ℕ} {cell : Cell} {rest : List ℕ} (t : Turn h.kind used marked from cell rest)
+    (a : Freed h (select (garbage_in h marked) from) g l₀ 0 l₁ r) where
+  below : Freed h (select (garbage_in h marked) cell.0) g l₀ 0 l₁ r
+  below = rw t.garbage_passed a
+
+  gone : Wiped h g (select (garbage_in h marked) cell.0)
+  gone = subst⁻¹ (λ (k : Heap). Wiped h k (select (garbage_in h marked) cell.0)) below.heap (wiped h (select (garbage_in h marked) cell.0))
+
+  -- what the turn asks
+  pub as_many : cells g ≡ cells h
+  as_many = gone.kind_length
+
+  pub same_left : Same h → Same g
+  same_left s = record {
+    flags_size = omega (arith, gone.flags_length, s.flags_size, as_many);
+    count_size = omega (arith, gone.count_length, s.count_size, as_many);
+    slots_size = omega (arith, gone.slots_length, s.slots_size, as_many);
   }
-    where
-      listed_one : e < length l → take (e + 1) (set l e (c + 1)) ≡ take e l ++ (suc c ∷ [])
-      listed_one stands =
-          let end : e + 1 ≡ suc e = omega arith in
-          let is : c + 1 ≡ suc c = omega arith in
-          (λ j. take (end j) (set l e (is j))) ∙ take-suc-set l e (suc c) stands
 
-  pub freed_start : (p : ℕ → Bool) (l : List ℕ) {r : ℕ} → r ≡ 0 → Freed k f n s (select p 0) k f n s l 0 l r
-  unfolding wipe_all select
-  freed_start p l none = record { heap = λ t q w. refl; many = none; listed = λ room. ap (λ (i : ℕ). take i l) none }
+  pub end_few : r ≤ cell.0
+  end_few = freed_few (bits_of (cells h) marked) below
 
-  freed_then : {k' f' n' s' k'' f'' n'' s'' l₀ l₁ l₂ : List ℕ} {e r r' : ℕ} (l m : List ℕ) → length k' ≡ length k → length l₁ ≡ length l₀
-      → Freed k f n s l k' f' n' s' l₀ e l₁ r → Freed k' f' n' s' m k'' f'' n'' s'' l₁ r l₂ r' → Freed k f n s (l ++ m) k'' f'' n'' s'' l₀ e l₂ r'
-  freed_then {l₀ = l₀} {e = e} l m cells size a b = record {
-    heap = λ t q w. b.heap t q w ∙ ap (λ (h : Heap). wipe_all h m) (a.heap t q w) ∙ sym (wipe-append (tables k f n s t q w) l m);
-    many = omega (arith, a.many, b.many, length-append l m);
-    listed = λ room. b.listed (omega arith) ∙ ap (λ (x : List ℕ). x ++ map suc m) (a.listed room) ∙ append_assoc (take e l₀) (map suc l) (map suc m)
-        ∙ ap (λ (x : List ℕ). take e l₀ ++ x) (sym (map-append suc l m));
-  }
-
--- the garbage below c was wiped and listed
-module _ {k f n s k' f' n' s' l₀ l₁ : List ℕ} {r : ℕ} (m : List ℕ) (c : ℕ) (same : Same k f n s) (a : Freed k f n s (select (is_garbage k m) c) k' f' n' s' l₀ 0 l₁ r) where
-  h : Heap
-  h = tables k f n s [] [] []
-
-  gone : Wiped h (wipe_all h (select (is_garbage k m) c)) (select (is_garbage k m) c)
-  unfolding h
-  gone = wiped h (select (is_garbage k m) c)
-
-  is : tables k' f' n' s' [] [] [] ≡ wipe_all h (select (is_garbage k m) c)
-  unfolding h
-  is = a.heap [] [] []
-
-  pub freed-length : length k' ≡ length k
-  unfolding h
-  freed-length = ap (λ (g : Heap). length g.kind) is ∙ gone.kind_length
-
-  pub freed_same : Same k' f' n' s'
-  unfolding h
-  freed_same = record {
-    flags_size = ap (λ (g : Heap). length g.flags) is ∙ gone.flags_length ∙ same.flags_size ∙ sym freed-length;
-    count_size = ap (λ (g : Heap). length g.count) is ∙ gone.count_length ∙ same.count_size ∙ sym freed-length;
-    slots_size = ap (λ (g : Heap). length g.slots) is ∙ gone.slots_length ∙ same.slots_size ∙ ap (λ (x : ℕ). 8 * x) (sym freed-length);
-  }
-
-  -- the next garbage cell
-  pub freed_next : {k'' f'' n'' s'' l₂ : List ℕ} {from end r' : ℕ} → is_garbage k m c ≡ true → Freed k' f' n' s' (c ∷ []) k'' f'' n'' s'' l₁ from l₂ r' → from ≡ r → end ≡ r'
-      → length l₁ ≡ length l₀ → Freed k f n s (select (is_garbage k m) (suc c)) k'' f'' n'' s'' l₀ 0 l₂ end
-  freed_next {k''} {f''} {n''} {s''} {l₂} {from} {end} {r'} passes b at next size =
-      let b₁ : Freed k' f' n' s' (c ∷ []) k'' f'' n'' s'' l₁ r l₂ end =
-      subst (λ (y : ℕ). Freed k' f' n' s' (c ∷ []) k'' f'' n'' s'' l₁ r l₂ y) (sym next)
-      (subst (λ (x : ℕ). Freed k' f' n' s' (c ∷ []) k'' f'' n'' s'' l₁ x l₂ r') at b) in
-      subst (λ (l : List ℕ). Freed k f n s l k'' f'' n'' s'' l₀ 0 l₂ end) (sym (select_passing (is_garbage k m) c passes))
-      (freed_then (select (is_garbage k m) c) (c ∷ []) freed-length size a b₁)
-
-  -- no more cells are listed than were looked at
-  pub freed_few : r ≤ c
-  freed_few = omega (arith, a.many, pigeonhole c (select (is_garbage k m) c) (select_once (is_garbage k m) c) (λ z o. (select_only (is_garbage k m) c z o).0))
-
-  -- every cell was looked at
-  pub freed_all : {end : ℕ} → c ≡ length k → end ≡ r → Freed k f n s (garbage_of k m) k' f' n' s' l₀ 0 l₁ end
-  freed_all {end} all at =
-      subst (λ (x : ℕ). Freed k f n s (select (is_garbage k m) x) k' f' n' s' l₀ 0 l₁ end) all
-      (subst (λ (x : ℕ). Freed k f n s (select (is_garbage k m) c) k' f' n' s' l₀ 0 l₁ x) (sym at) a)
+  -- what it leaves
+  pub cell_freed : {k : Heap} {l₂ : List ℕ} {e d : ℕ} → Freed g (cell.0 ∷ []) k l₁ e l₂ d → e ≡ r → length l₁ ≡ length l₀
+      → Freed h (select (garbage_in h marked) (suc cell.0)) k l₀ 0 l₂ d
+  cell_freed {k} {l₂} {d = d} b at size = rw (select_passing (garbage_in h marked) cell.0 t.garbage) (freed_then (select (garbage_in h marked) cell.0) (cell.0 ∷ []) as_many size below
+      (subst (λ (x : ℕ). Freed g (cell.0 ∷ []) k l₁ x l₂ d) at b))

@@ -1,9 +1,10 @@
--- What each part of COLLECT does to the tables that it is lent: an equation with the rules' definition, whatever stands in the other tables.
+-- What each part of COLLECT does to the tables: an equation with the rules' definition. That of a part that is lent one table holds whatever stands in
+-- the others.
 -- Assumes nothing: these are definitions.
 use Rattle.std.specs.Prelude.{ℕ, suc, ◌+◌, ◌*◌, ◌^◌, ◌≤◌, ◌<◌, List, [], ◌∷◌, ◌++◌, map, Bool, true, not, ◌&&◌, cond, ◌≡◌, eqb, length, get_or, take, replicate}
 use Rattle.rules.specs.declared.Answer.{Answer}
 use Rattle.rules.specs.Lists.{occ, select}
-use Rattle.rules.specs.Heap.{Heap, tables, cells}
+use Rattle.rules.specs.Heap.{Heap, tables, cells, queued, count_of}
 use Rattle.rules.specs.Collect.{enqueue_all, unreached_finalizable, kept_marks, lower_all, unlink_all, wipe_all, rescue_all, collect}
 use Rattle.rules.specs.Words.{bit_of, marked_of, UsedBits}
 use Rattle.rules.specs.Calls.{answers}
@@ -62,14 +63,14 @@ pub record Scratch (n : ℕ) (used marks : List ℕ) : Type 0 where
 -- ---- queueing
 
 -- the tables fit, the queue has room for the cells l, and their counts may rise
-pub record QueueRoom (kind flags count queue control l : List ℕ) : Type 0 where
-  pub fit : Fit kind flags count queue control
-  pub room : get_or control 0 0 + length l ≤ length kind
-  pub small : (c : ℕ) → get_or count c 0 + occ c l < 65536
+pub record QueueRoom (h : Heap) (l : List ℕ) : Type 0 where
+  pub fit : Fit h.kind h.flags h.count h.queue h.control
+  pub room : queued h + length l ≤ cells h
+  pub small : (c : ℕ) → count_of h c + occ c l < 65536
 
 -- the cells l joined the queue, and were counted
-pub record Queued (kind flags count queue control l count' queue' control' : List ℕ) (r : ℕ) : Type 0 where
-  pub heap : (s t : List ℕ) → tables kind flags count' s t queue' control' ≡ enqueue_all (tables kind flags count s t queue control) l
+pub record Queued (h : Heap) (l : List ℕ) (after : Heap) (r : ℕ) : Type 0 where
+  pub heap : after ≡ enqueue_all h l
   pub many : r ≡ length l
 
 -- ---- sweeping: the first round, the second, and the rescued
@@ -78,27 +79,23 @@ pub record Queued (kind flags count queue control l count' queue' control' : Lis
 pub record TakenOff (count l count' : List ℕ) : Type 0 where
   pub heap : (k f s t q w : List ℕ) → tables k f count' s t q w ≡ lower_all (tables k f count s t q w) l
 
--- the slots of the cells l came off their targets' counts
-pub record Unlinked (slots count l count' : List ℕ) : Type 0 where
-  pub heap : (k f t q w : List ℕ) → tables k f count' slots t q w ≡ unlink_all (tables k f count slots t q w) l
-
 -- tables for the same number of cells
-pub record Same (kind flags count slots : List ℕ) : Type 0 where
-  pub flags_size : length flags ≡ length kind
-  pub count_size : length count ≡ length kind
-  pub slots_size : length slots ≡ 8 * length kind
+pub record Same (h : Heap) : Type 0 where
+  pub flags_size : length h.flags ≡ cells h
+  pub count_size : length h.count ≡ cells h
+  pub slots_size : length h.slots ≡ 8 * cells h
 
--- `listed` says whether the table for the freed cells has room for every cell
-pub record Lists (listed : Bool) (kind freed : List ℕ) : Type 0 where
-  pub room : listed ≡ true → length kind ≤ length freed
-  pub asked : length kind ≤ length freed → listed ≡ true
+-- `listed` says whether the table for the freed cells has room for so many
+pub record Lists (listed : Bool) (many : ℕ) (freed : List ℕ) : Type 0 where
+  pub room : listed ≡ true → many ≤ length freed
+  pub asked : many ≤ length freed → listed ≡ true
 
--- The cells l were freed, and their references, in order, joined the list: it ended at `from` in `before`, and ends at r in `after`. That is said of a table
+-- The cells l were freed, and their references, in order, joined the list: it ended at `from` in `before`, and ends at r in `list`. That is said of a table
 -- that has room for every cell, and nothing of another.
-pub record Freed (kind flags count slots l kind' flags' count' slots' before : List ℕ) (from : ℕ) (after : List ℕ) (r : ℕ) : Type 0 where
-  pub heap : (t q w : List ℕ) → tables kind' flags' count' slots' t q w ≡ wipe_all (tables kind flags count slots t q w) l
+pub record Freed (h : Heap) (l : List ℕ) (after : Heap) (before : List ℕ) (from : ℕ) (list : List ℕ) (r : ℕ) : Type 0 where
+  pub heap : after ≡ wipe_all h l
   pub many : r ≡ from + length l
-  pub listed : length kind ≤ length before → take r after ≡ take from before ++ map suc l
+  pub listed : cells h ≤ length before → take r list ≡ take from before ++ map suc l
 
 -- the cells l got flags 1
 pub record Restored (flags l flags' : List ℕ) : Type 0 where
@@ -121,10 +118,10 @@ abbrev pub rounds : Heap → List ℕ → Heap
 rounds h l = wipe_all (unlink_all h l) l
 
 -- both rounds over the garbage, which was counted and listed
-pub record Swept (kind flags count slots marks kind' flags' count' slots' room list : List ℕ) (r : ℕ) : Type 0 where
-  pub heap : (t q w : List ℕ) → tables kind' flags' count' slots' t q w ≡ rounds (tables kind flags count slots t q w) (garbage_of kind marks)
-  pub many : r ≡ length (garbage_of kind marks)
-  pub listed : length kind ≤ length room → take r list ≡ map suc (garbage_of kind marks)
+pub record Swept (h : Heap) (marks : List ℕ) (after : Heap) (room list : List ℕ) (r : ℕ) : Type 0 where
+  pub heap : after ≡ rounds h (garbage_of h.kind marks)
+  pub many : r ≡ length (garbage_of h.kind marks)
+  pub listed : cells h ≤ length room → take r list ≡ map suc (garbage_of h.kind marks)
 
 -- every table is as the rules' COLLECT leaves it, the list begins with the references of what it freed, and the answer counts what it freed and queued
 pub record Collected (h : Heap) (room : List ℕ) (after : Heap) (list : List ℕ) (answer : Answer) : Type 0 where

@@ -4,7 +4,7 @@ ghost use Rattle.rules.specs.Words.{bits_of};
 ghost use Rattle.sweep.specs.Phases.{is_rescued, only, Restored, Decided};
 
 use crate::cells::is_rescued;
-use numbers::cell::{Cell, CellNumber};
+use numbers::Cell;
 
 // A cell gets flags 1 again, if it is rescued.
 fn rescue_cell(flags: &mut [u16], marked: &[u64], cell: Cell)
@@ -25,8 +25,9 @@ pub fn rescue_marked(flags: &mut [u16], marked: &[u64], waiting: u16)
     if waiting != 0 {
         return;
     }
+    // by the cell's number, which is what is handed on
     for c in 0..flags.len() {
-        let CellNumber::Is(cell) = Cell::of(c, flags.len()) else {
+        let Some(cell) = Cell::of(c, flags.len()) else {
             return;
         };
         rescue_cell(flags, marked, cell);

@@ -1,18 +1,21 @@
 -- The loops that tally a table of references, one or four in a turn: their invariant, at the start, after a turn, and at the end.
 -- Assumes nothing.
-use Prim.Native.Nat.{ℕ, ◌≤◌, ◌<◌, ◌+◌, ◌-◌}
+use Prim.Native.Nat.{ℕ, ◌≤◌, ◌<◌, ◌+◌, ◌-◌, ◌*◌, ◌/◌}
 use native.Mathlib.Omega.{arith}
 use mathlib.Core.List.{List, [], ◌∷◌}
 use mathlib.Core.Bool.{true}
 use mathlib.Core.Path.{◌≡◌, refl, ap}
 use lib.Dec.{eqb}
-use lib.ListN.{length, get_or, take, drop, length-drop}
+use lib.ListN.{length, get_or, take, drop}
 use lib.Seq.{length-take-le, take_all}
+use Rattle.std.specs.Simd.{first_chunks}
 use Rattle.rules.specs.Lists.{all, dangling}
 use Rattle.laws.specs.Lists.Tables.{drop-next}
 use Rattle.laws.specs.Sound.Tally.{TallyRoom, counters, tallied_none, tallied_zeros, tallied_part, room_after, less_room, dangling_zeros, dangling-length, dangling_part}
 use Rattle.rules.specs.Lists as Lists
 use Rattle.tally.specs.Tallies.{Tallies}
+use Rattle.tally.proofs.Chunks.{chunk_at}
+use Rattle.tally.proofs.Scratch.{part_rest}
 
 -- `whole` is the tally before, `first` what was lost before; `tally` and `lost` are what the first i entries make of them
 pub record Tallying (whole table tally : List ℕ) (first lost i : ℕ) : Type 0 where
@@ -23,20 +26,17 @@ pub tallying_begin : (whole table : List ℕ) (first : ℕ) → Tallying whole t
 unfolding Lists.dangling
 tallying_begin whole table first = record { bound = omega arith; is = (omega arith, tallied_none whole) }
 
--- the first i entries, however they were tallied
-pub tallying_part : {whole tally : List ℕ} {first lost : ℕ} (table : List ℕ) (i : ℕ) → i ≤ length table → Tallies whole (take i table) tally first lost
-    → Tallying whole table tally first lost i
-tallying_part table i m w = record { bound = m; is = w }
-
 -- the entry at i, as a part of the table
 one_part : (table : List ℕ) (i : ℕ) → i < length table → get_or table i 0 ∷ [] ≡ take (i + 1 - i) (drop i table)
 one_part table i m =
     let e : i + 1 - i ≡ 1 = omega arith in
     rw (e, drop-next table i m) refl
 
--- the four entries from i on
-pub four_long : (table : List ℕ) (i : ℕ) → i + 4 ≤ length table → length (take (i + 4 - i) (drop i table)) ≡ 4
-four_long table i m = omega (arith, length-take-le (i + 4 - i) (drop i table) (omega (arith, length-drop i table)))
+-- the four at i of a table cut into fours, as a part of the table
+four_part : (table : List ℕ) (k i : ℕ) → i < k → get_or (first_chunks 4 k table) i [] ≡ take (4 * (i + 1) - 4 * i) (drop (4 * i) table)
+four_part table k i m =
+    let e : 4 * (i + 1) - 4 * i ≡ 4 = omega arith in
+    rw e (chunk_at 4 k i table m)
 
 module _ {whole table tally : List ℕ} {first lost i : ℕ} (v : Tallying whole table tally first lost i) where
   -- where there was room for n references, there is still room for k after the first i, in the tally and in the number of lost ones
@@ -69,6 +69,18 @@ module _ {whole table tally : List ℕ} {first lost i : ℕ} (v : Tallying whole
 
   pub tallying_done : length table ≤ i → Tallies whole table tally first lost
   tallying_done m = rw (take_all i table m) at v.is
+
+-- what is left from i on is tallied
+pub tallying_rest : {whole table tally : List ℕ} {first lost i : ℕ} → Tallying whole table tally first lost i → (r : ℕ) (next rest : List ℕ) → rest ≡ drop i table
+    → Tallies tally rest next lost r → Tallies whole table next first r
+tallying_rest {table = table} {i = i} v r next rest e w =
+    tallying_done (tallying_turn v (length table) r next v.bound (omega arith) (rw (part_rest table i, ← e) w)) (omega arith)
+
+-- the four at i are tallied, of a table that is cut into fours as far as it goes
+pub tallying_turn_four : {whole table tally : List ℕ} {first lost : ℕ} (i : ℕ) → Tallying whole table tally first lost (4 * i) → (r : ℕ) (next : List ℕ) → i < length table / 4
+    → Tallies tally (get_or (first_chunks 4 (length table / 4) table) i []) next lost r → Tallying whole table next first r (4 * (i + 1))
+tallying_turn_four {table = table} i v r next m w =
+    tallying_turn v (4 * (i + 1)) r next (omega arith) (omega arith) (rw (← four_part table (length table / 4) i m) w)
 
 -- four empty references may be skipped
 pub skipped : (tally l : List ℕ) (lost : ℕ) → all (eqb 0) l ≡ true → Tallies tally l tally lost lost

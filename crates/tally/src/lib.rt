@@ -1,7 +1,7 @@
 // How often each cell is referred to: entry r of a tally has how often the reference r was met so far, which names cell r - 1. Entry 0 takes the empty references, so that they need no test of their own; what it has says nothing.
 #![tactic(auto)]
 
-ghost use Rattle.std.specs.Prelude.{◌≡◌, [], ◌∷◌, ◌+◌, ◌%◌, ◌<◌, eqb, length};
+ghost use Rattle.std.specs.Prelude.{◌≡◌, [], ◌∷◌, ◌+◌, ◌<◌, eqb, length};
 ghost use Rattle.rules.specs.Lists.{all};
 ghost use Rattle.laws.specs.Sound.Tally.{TallyRoom};
 ghost use Rattle.tally.specs.Tallies.{Tallies};
@@ -16,7 +16,7 @@ fn tally_one(tally: &mut [u16], reference: u16, lost: usize) -> usize
     requires { TallyRoom tally.old 1 × (lost + 1 < 65536) }
     ensures { Tallies tally.old (reference ∷ []) tally.new lost result }
 {
-    let r = reference as usize;
+    let r = usize::from(reference);
     if tally.len() <= r {
         return lost + 1;
     }
@@ -30,17 +30,14 @@ fn tally_each(tally: &mut [u16], references: &[u16], before: usize) -> usize
     ensures { Tallies tally.old references.now tally.new before result }
 {
     let mut lost = before;
-    let mut i = 0;
-    while i < references.len() {
-        lost = tally_one(tally, references[i], lost);
-        i += 1;
+    for &reference in references {
+        lost = tally_one(tally, reference, lost);
     }
     lost
 }
 
 // Are four references empty? The first has a test of its own, which mostly tells a used four: the others are then loaded where they are tallied, and not before.
-fn four_empty(four: &[u16]) -> bool
-    requires { length four.now ≡ 4 }
+fn four_empty(four: &[u16; 4]) -> bool
     ensures { result ≡ all (eqb 0) four.now }
 {
     if four[0] != 0 {
@@ -50,8 +47,8 @@ fn four_empty(four: &[u16]) -> bool
 }
 
 // Tallies four references; where all are empty, as most slots are, they are skipped.
-fn tally_four(tally: &mut [u16], four: &[u16], before: usize) -> usize
-    requires { TallyRoom tally.old 4 × (before + 4 < 65536) × (length four.now ≡ 4) }
+fn tally_four(tally: &mut [u16], four: &[u16; 4], before: usize) -> usize
+    requires { TallyRoom tally.old 4 × (before + 4 < 65536) }
     ensures { Tallies tally.old four.now tally.new before result }
 {
     if four_empty(four) {
@@ -60,27 +57,15 @@ fn tally_four(tally: &mut [u16], four: &[u16], before: usize) -> usize
     tally_each(tally, four, before)
 }
 
-// Tallies references four at a time.
-fn tally_fours(tally: &mut [u16], references: &[u16], before: usize) -> usize
-    requires { TallyRoom tally.old (length references.now) × (before + length references.now < 65536) × (length references.now % 4 ≡ 0) }
-    ensures { Tallies tally.old references.now tally.new before result }
-{
-    let mut lost = before;
-    let mut i = 0;
-    while i < references.len() {
-        let end = i + 4;
-        lost = tally_four(tally, &references[i..end], lost);
-        i = end;
-    }
-    lost
-}
-
-// Tallies the references of a table, the up to three behind the last four one by one; answers how many are lost, with the `before` of other tables.
+// Tallies the references of a table, four at a time, and the up to three behind the last four one by one; answers how many are lost, with the `before` of other tables.
 pub fn tally_all(tally: &mut [u16], references: &[u16], before: usize) -> usize
     requires { TallyRoom tally.old (length references.now) × (before + length references.now < 65536) }
     ensures { Tallies tally.old references.now tally.new before result }
 {
-    let fours = references.len() / 4 * 4;
-    let lost = tally_fours(tally, &references[..fours], before);
-    tally_each(tally, &references[fours..], lost)
+    let (fours, rest) = references.as_chunks::<4>();
+    let mut lost = before;
+    for four in fours {
+        lost = tally_four(tally, four, lost);
+    }
+    tally_each(tally, rest, lost)
 }

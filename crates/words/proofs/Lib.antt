@@ -1,3 +1,3 @@
-pub mod Ahead
+pub mod Left
 pub mod OpenWords
 pub mod UsedWords

@@ -5,8 +5,9 @@ use native.Mathlib.Decide.{ℕ_discrete, dec_lt}
 use native.Mathlib.Nat.{pow-suc}
 use native.Mathlib.Omega.{arith}
 use mathlib.Core.List.{List}
-use mathlib.Core.Bool.{Bool, true, false, cond}
-use mathlib.Core.Path.{◌≡◌, sym, ap, ◌∙◌}
+use mathlib.Core.Bool.{Bool, true, false, not, cond}
+use mathlib.Core.Path.{◌≡◌, refl, sym, ap, ◌∙◌}
+use mir.Val.{bool_byte}
 use lib.Arith.{lt_of_le-ne}
 use lib.Dec.{eqb}
 use lib.ListN.{length, get_or, set, get_or-eq_default}
@@ -27,6 +28,11 @@ used_most kind c b e = omega (arith, most (eqb (get_or kind c 0) 0))
     most : (t : Bool) → cond t 0 1 ≤ 1
     most true = omega arith
     most false = omega arith
+
+-- a test as a number
+pub unused : (b : Bool) → bool_byte (not b) ≡ cond b 0 1
+unused true = refl
+unused false = refl
 
 -- no cell is used past the table
 used_past : (kind : List ℕ) (c : ℕ) → length kind ≤ c → used_at kind c ≡ 0

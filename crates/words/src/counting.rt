@@ -1,4 +1,5 @@
 // How many cells have a bit, by the processor's count of ones.
+// `as` widens here: From says no more, and each use of it is a further step for the proof.
 ghost use Rattle.std.specs.Prelude.{◌*◌, ◌^◌, ◌<◌, ◌≡◌, length};
 ghost use Rattle.rules.specs.Lists.{occ};
 ghost use Rattle.rules.specs.Words.{bits_of};
@@ -9,8 +10,8 @@ pub fn count_bits(words: &[u64]) -> usize
     ensures { result ≡ occ 1 (bits_of (64 * length words.now) words.now) }
 {
     let mut count = 0;
-    for j in 0..words.len() {
-        count += u64::count_ones(words[j]) as usize;
+    for &word in words {
+        count += word.count_ones() as usize;
     }
     count
 }

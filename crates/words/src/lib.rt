@@ -8,7 +8,7 @@ pub mod used;
 ghost use Rattle.std.specs.Prelude.{◌*◌, ◌<◌, ◌≡◌, eqb, length};
 ghost use Rattle.rules.specs.Words.{bit_of};
 
-use numbers::cell::Cell;
+use numbers::Cell;
 
 // Whether a cell has its bit.
 pub fn has_bit(words: &[u64], cell: Cell) -> bool

@@ -1,45 +1,69 @@
--- The object that a root holds: it may be looked for, it was found, or the call that wants it is refused.
+-- A number or an object that a call names: it was found, or the call is refused.
 -- Assumes nothing.
-use Prim.Native.Nat.{ℕ, zero, suc, ◌≤◌, ◌<◌}
+use Prim.Native.Nat.{ℕ, suc, ◌≤◌, ◌<◌}
 use native.Mathlib.Omega.{arith}
-use mathlib.Core.List.{List, []}
+use mathlib.Core.List.{List}
 use mathlib.Core.Bool.{false}
-use mathlib.Core.Logic.{◌⊎◌, ◌≢◌, inl, inr}
+use mathlib.Core.Logic.{◌≢◌, inl, inr}
 use mathlib.Core.Path.{◌≡◌, refl, sym, ap, ◌∙◌}
+use Rattle.std.specs.Prelude.{Option, Some, None, Result, Ok, Err, ok_or, IsErrAnd}
+use Rattle.rules.proofs.Refusing.{refuses}
+use Rattle.numbers.specs.declared.below.Below.{Below}
+use Rattle.numbers.specs.Numbers.{AsBelow}
 use Rattle.rules.specs.declared.Answer.{Answer}
-use Rattle.rules.specs.Heap.{Heap, cells, kind_of, root_at, Used}
+use Rattle.rules.specs.declared.refusal.Refusal.{Refusal}
+use Rattle.rules.specs.declared.refusal.Refusal.TheVariants as Is
+use Rattle.rules.specs.Refused.{number_of, answer_of}
+use Rattle.rules.specs.Heap.{Heap, cells, kind_of, root_at}
 use Rattle.rules.specs.Sound.{Ready}
-use Rattle.rules.specs.Refusals.{Call, is_fresh, refusal_sound}
+use Rattle.rules.specs.Refusals.{Call, is_fresh, refusal_sound, lowest, conditions}
 use Rattle.rules.specs.Calls.{answers, held}
-use Rattle.laws.specs.Lists.Tables.{inside}
-use Rattle.laws.specs.Sound.Facts.{ready_facts}
-use Rattle.laws.specs.Reach.Used.{root_used}
-use Rattle.writes.specs.Objects.{Holding}
+use Rattle.laws.specs.Calls.Arguments.{by_fresh}
 use Rattle.laws.specs.Calls.Inner.{Ran, inner_refused}
+use Rattle.writes.specs.Objects.{AsObject}
 
--- what names a used cell, or nothing, is at most the number of cells
-within : (h : Heap) (x : ℕ) → ((c : ℕ) → x ≡ suc c → Used h c) → x ≤ cells h
-within h zero used = omega arith
-within h (suc c) used = omega (arith, inside h.kind c (used c refl))
+-- ---- a call that is refused
 
--- the object that a root holds may be looked for
-pub holding_ready : {h : Heap} {holder : ℕ} → Ready h → holder < 64 → Holding h.kind h.roots holder
-holding_ready {h} {holder} ok small =
-    record { range = omega (arith, ok.sized.roots); within = within h (root_at h holder) (root_used h [] (ready_facts ok) holder) }
+-- FRESH is not refused on a sound heap
+not_fresh : (h : Heap) (call : Call) → refusal_sound h call ≢ 0 → is_fresh call ≡ false
+unfolding refusal_sound lowest conditions
+not_fresh h = by_fresh {P = λ call. refusal_sound h call ≢ 0 → is_fresh call ≡ false} (λ some. absurd (some refl)) (λ call other some. other)
 
--- ---- a call that did not find its object
+-- the call answers why it is refused, and changes nothing
+refused_ran : {h : Heap} {room : List ℕ} {call : Call} (why : Refusal) (result : Result Answer Refusal) → Ready h
+    → refusal_sound h call ≡ number_of why → IsErrAnd result (λ e. e ≡ why) → Ran call h room h room (answer_of result)
+refused_ran why (Ok a) ok some is = absurd is
+refused_ran {h} {call = call} why (Err e) ok some is =
+    inner_refused ok (not_fresh h call (rw some (refuses why))) some (refuses why) (ap (λ (w : Refusal). answers (number_of w) 0 0 0) is)
 
-pub object_refused : {h : Heap} {room : List ℕ} {call : Call} {holder o why : ℕ} {a : Answer} → Ready h → is_fresh call ≡ false
-    → (root_at h o ≡ 0 → refusal_sound h call ≡ 4) → (root_at h o ≢ 0 → kind_of h (held h o) ≢ 1 → refusal_sound h call ≡ 5) → holder ≡ o
-    → ((root_at h holder ≡ 0) × (why ≡ 4)) ⊎ ((root_at h holder ≢ 0) × (kind_of h (held h holder) ≢ 1) × (why ≡ 5))
-    → a ≡ answers why 0 0 0 → Ran call h room h room a
-object_refused ok other empty kind same (inl e) a = inner_refused ok other (empty (rw same at e.0) ∙ sym e.1) (λ z. omega arith) a
-object_refused ok other empty kind same (inr e) a = inner_refused ok other (kind (rw same at e.0) (rw same at e.1) ∙ sym e.2) (λ z. omega arith) a
+-- refused for a number, which was looked for and not found
+pub number_refused : {h : Heap} {room : List ℕ} {call : Call} {N : ℕ} {found : Option (Below N)} {why : Refusal} (result : Result Answer Refusal)
+    → Ready h → refusal_sound h call ≡ 3 → found ≡ None → Err why ≡ ok_or found Is.Number → IsErrAnd result (λ e. e ≡ why)
+    → Ran call h room h room (answer_of result)
+number_refused {why = why} result ok high none e is =
+    let number : why ≡ Is.Number = cc (rw none at e) in
+    refused_ran Is.Number result ok high (rw number at is)
 
--- the object that its root was found to hold, by the root's number
-pub found_object : (h : Heap) {holder o cell : ℕ} → holder ≡ o → (root_at h holder ≡ suc cell) × (kind_of h cell ≡ 1) × (cell < cells h)
+-- refused for a root that holds no object
+pub object_refused : {h : Heap} {room : List ℕ} {call : Call} (o : ℕ) (why : Refusal) (result : Result Answer Refusal) → Ready h
+    → (root_at h o ≡ 0 → refusal_sound h call ≡ 4) → (root_at h o ≢ 0 → kind_of h (held h o) ≢ 1 → refusal_sound h call ≡ 5)
+    → AsObject h o (Err why) → IsErrAnd result (λ e. e ≡ why) → Ran call h room h room (answer_of result)
+object_refused o why result ok empty kind (inl e) is = refused_ran why result ok (empty e.0 ∙ sym e.1) is
+object_refused o why result ok empty kind (inr e) is = refused_ran why result ok (kind e.0 e.1 ∙ sym e.2) is
+
+-- ---- what was found
+
+-- a number that is none is not below its limit
+pub outside : {N x limit : ℕ} {found : Option (Below N)} → AsBelow x limit found → found ≡ None → limit ≤ x
+outside claim none = rw none at claim
+
+-- any other is the one that was named
+pub inside : {N x limit : ℕ} {found : Option (Below N)} {n : Below N} → AsBelow x limit found → found ≡ Some n → (n.0 ≡ x) × (x < limit)
+inside claim some = rw some at claim
+
+-- the object that a root was found to hold
+pub found_object : (h : Heap) (o : ℕ) {cell : ℕ} → (root_at h o ≡ suc cell) × (kind_of h cell ≡ 1) × (cell < cells h)
     → (root_at h o ≢ 0) × (kind_of h (held h o) ≡ 1) × (held h o ≡ cell)
-found_object h {o = o} {cell = cell} of found =
-    let same = ap (root_at h) of in
+found_object h o {cell} found =
     let its : held h o ≡ cell = omega (arith, found.0) in
     (λ z. omega (arith, found.0), ap (kind_of h) its ∙ found.1, its)

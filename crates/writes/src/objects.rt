@@ -1,32 +1,27 @@
 // The object that a root holds.
+// `as` widens here: From says no more, and each use of it is a further step for the proof.
+ghost use Rattle.rules.specs.Tables.{lent};
 ghost use Rattle.writes.specs.Objects.{Holding, AsObject};
 
-use numbers::cell::{Cell, CellNumber};
-use numbers::root::Root;
-use rules::{EMPTY, KIND};
+use numbers::{Cell, Root};
+use rules::refusal::Refusal;
+use rules::tables::TablesMut;
 
 // An object's cell, or why there is none.
-#[derive(Clone, Copy)]
-pub enum Object {
-    Is(Cell),
-    Refused(u16),
-}
-
-pub fn object_of(kind: &[u16], roots: &[u16], holder: Root) -> Object
-    requires { Holding kind.now roots.now holder.0 }
-    ensures { AsObject kind.now roots.now holder.0 result }
+pub fn object_of(tables: &TablesMut, holder: Root) -> Result<Cell, Refusal>
+    requires { Holding (lent tables.now) holder.0 }
+    ensures { AsObject (lent tables.now) holder.0 result }
 {
-    let r = roots[holder.index()];
+    // The tables are C's: a reference is a number, empty at 0, and a kind too, an object's at 1.
+    let r = tables.roots[holder.index()];
     if r == 0 {
-        return Object::Refused(EMPTY);
+        return Err(Refusal::Empty);
     }
-    // What a root holds is one of the cells, so that the check always passes.
     let c = r as usize - 1;
-    let CellNumber::Is(cell) = Cell::of(c, kind.len()) else {
-        return Object::Refused(KIND);
-    };
-    if kind[c] != 1 {
-        return Object::Refused(KIND);
+    // What a root holds is one of the cells, so that the check always passes.
+    let cell = Cell::of(c, tables.kind.len()).ok_or(Refusal::Kind)?;
+    if tables.kind[c] != 1 {
+        return Err(Refusal::Kind);
     }
-    Object::Is(cell)
+    Ok(cell)
 }

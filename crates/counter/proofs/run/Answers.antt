@@ -10,8 +10,8 @@ loop-init g c = record { room = omega arith; running = rw c.start-reader.ensures
 pub loop-preserved : goal.loop-preserved
 loop-preserved g c = record {
   room = omega arith;
-  running = running_further _ _ _ _ _ _ _ _ _ _ _ _ c.loop.invariant.running c.in_ok-served.ensures.told c.in-More.is;
+  running = running_further _ _ _ _ _ _ _ _ _ _ _ _ c.loop.invariant.running c.in_ok-next.ensures.told c.in-Some.is;
 }
 
-pub returns-in-Over : goal.returns-in-Over
-returns-in-Over g c = running_over _ _ _ _ _ _ _ _ _ _ _ c.loop.invariant.running c.in_ok-served.ensures.told c.in-Over.is
+pub returns-in_default : goal.returns-in_default
+returns-in_default g c = running_over _ _ _ _ _ _ _ _ _ _ _ c.loop.invariant.running c.in_ok-next.ensures.told c.in_default.is

@@ -20,7 +20,7 @@ mark_cell-loop-k-init t c =
 
 pub mark_cell-mark_slot-requires : goal.mark_cell-mark_slot-requires
 mark_cell-mark_slot-requires t c =
-    let is = c.in-Is.ensures in
+    let is = c.in-Some.ensures in
     (omega arith, (c.requires.slots, (c.loop-k.invariant.1.fits, (c.requires.cell_bound.0, omega arith))))
 
 pub mark_cell-loop-k-preserved : goal.mark_cell-loop-k-preserved
@@ -29,7 +29,7 @@ mark_cell-loop-k-preserved t c =
     let slots = c.args.slots.now in
     let n = cells_of slots in
     let loop = c.loop-k in
-    let is = c.in-Is.ensures in
+    let is = c.in-Some.ensures in
     let step : List ℕ → ℕ → List ℕ = mark_slot (c.args.depth - 1) slots in (
       omega arith,
       record {
@@ -94,11 +94,11 @@ mark_slot-overflow_sub-reference t c =
 
 pub mark_slot-mark_cell-requires : goal.mark_slot-mark_cell-requires
 mark_slot-mark_cell-requires t c =
-    let is = c.in-Is.ensures in
+    let is = c.in-Some.ensures in
     (omega arith, (c.requires.slots, (c.requires.words_for, (omega arith, omega arith))))
 
-pub mark_slot-returns-in-Is : goal.mark_slot-returns-in-Is
-mark_slot-returns-in-Is t c =
+pub mark_slot-returns-in-Some : goal.mark_slot-returns-in-Some
+mark_slot-returns-in-Some t c =
     let slots = c.args.slots.now in
     let n = cells_of slots in
     let m = marks_of n c.args.marks.now in
@@ -106,7 +106,7 @@ mark_slot-returns-in-Is t c =
     let at = 8 * c.index.result + c.index-2.result in
     let reference = get_or slots at 0 in
     let at_slot : at ≡ 8 * c.args.cell.0 + c.args.slot.0 = omega arith in
-    let is = c.in-Is.ensures in
+    let is = c.in-Some.ensures in
     let asked = c.to_mark.ensures n (c.requires.slots.within at) in
     record {
       fits = c.mark_cell.ensures.fits;

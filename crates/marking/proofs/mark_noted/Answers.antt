@@ -26,7 +26,7 @@ loop-next-init c =
 pub mark_cell-requires : goal.mark_cell-requires
 mark_cell-requires c =
     let loop = c.loop-next in
-    let is = rw c.in-Is.is at loop.invariant.1 in
+    let is = rw c.in-Some.is at loop.invariant.1 in
     record {
       slots = c.requires.slots;
       words_for = loop.invariant.2;
@@ -38,7 +38,7 @@ next_noted-next-requires c =
     let loop = c.loop-next in
     let mark-cell = c.mark_cell in
     let shared-slice-known = c.shared_slice_known-1 in
-    let is = rw c.in-Is.is at loop.invariant.1 in
+    let is = rw c.in-Some.is at loop.invariant.1 in
     record {
       words_for = (mark-cell.ensures.fits, omega (arith, shared-slice-known.given 0));
       from_lt_cells = omega arith;
@@ -52,7 +52,7 @@ loop-next-smaller c =
     let n = cells_of slots in
     let m = marks_of n loop.marks in
     let after = marks_of n mark-cell.new.marks in
-    let is = rw c.in-Is.is at loop.invariant.1 in
+    let is = rw c.in-Some.is at loop.invariant.1 in
     let size = length_marks n loop.marks in
     let fit : Slots slots (length m) = rw size c.requires.slots in
     let step = mark-cell.ensures.marks ∙ ap (mark_cell 16 slots m) is.0 in
@@ -67,7 +67,7 @@ loop-next-preserved c =
     let n = cells_of slots in
     let m = marks_of n loop.marks in
     let after = marks_of n mark-cell.new.marks in
-    let is = rw c.in-Is.is at loop.invariant.1 in
+    let is = rw c.in-Some.is at loop.invariant.1 in
     let size = length_marks n loop.marks in
     let fit : Slots slots (length m) = rw size c.requires.slots in
     let step = mark-cell.ensures.marks ∙ ap (mark_cell 16 slots m) is.0 in (

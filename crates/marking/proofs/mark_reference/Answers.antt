@@ -31,15 +31,15 @@ returns-in_default c =
 pub mark_cell-requires : goal.mark_cell-requires
 mark_cell-requires c =
     let of = c.of in
-    let is = c.in-Is.ensures in
+    let is = c.in-Some.ensures in
     record {
       slots = c.requires.slots;
       words_for = c.requires.words_for;
       cell_bound = (omega arith, omega arith);
     }
 
-pub returns-in-Is : goal.returns-in-Is
-returns-in-Is c =
+pub returns-in-Some : goal.returns-in-Some
+returns-in-Some c =
     let of = c.of in
     let to-mark = c.to_mark in
     let if1 = c.if-to_mark in
@@ -48,7 +48,7 @@ returns-in-Is c =
     let n = cells_of slots in
     let m = marks_of n c.args.marks.now in
     let reference = c.args.reference in
-    let is = c.in-Is.ensures in
+    let is = c.in-Some.ensures in
     let asked = slot_cell slots m 16 reference (to-mark.ensures n c.requires.reference_bound) if1.true in
     record { fits = mark-cell.ensures.fits; marks = mark-cell.ensures.marks ∙ ap (mark_cell 16 slots m) is.0 ∙ sym asked }
 

@@ -1,12 +1,10 @@
--- `release::decref_slots` meets its contract. The loop's invariant is `Going`; the measure is what is left of the part. Assumes nothing.
-use Prim.Native.Nat.{◌-◌}
+-- `release::decref_slots` meets its contract. The loop's invariant is `Going`. Assumes nothing.
+use Prim.Native.Nat.{◌+◌, ◌*◌}
+use Rattle.rules.specs.Tables.{lent, SameTables}
 use Rattle.release.proofs.Run.{Going}
 use Rattle.release.proofs.decref_slots.Given as goal
 
-abbrev pub invariant-loop-i : goal.invariant-loop-i
-invariant-loop-i l =
-    Going l.kind l.flags l.initial.count l.slots l.initial.queue l.initial.control l.initial.freed l.tail l.initial.i l.end l.count l.queue l.control l.freed l.t l.i
-
-abbrev pub decreases-loop-i : goal.decreases-loop-i
-decreases-loop-i l =
-    l.end - l.i
+abbrev pub invariant-loop-k : goal.invariant-loop-k
+invariant-loop-k l =
+    SameTables l.initial.tables l.tables
+    × Going (lent l.initial.tables) l.initial.freed l.tail (8 * l.c) (8 * l.c + 8) (lent l.tables) l.freed l.t (8 * l.c + l.k)

@@ -8,8 +8,8 @@ use Rattle.soundness.proofs.running_ok.Goals as goal
 pub returns-then-running-eq0 : goal.returns-then-running-eq0
 returns-then-running-eq0 c = sym (running_none _ _ c.if-running-eq0.true)
 
-pub returns-then-running-gt-ROOTS : goal.returns-then-running-gt-ROOTS
-returns-then-running-gt-ROOTS c = sym (running_high _ _ (omega arith))
+pub returns-then-from-gt-ROOTS : goal.returns-then-from-gt-ROOTS
+returns-then-from-gt-ROOTS c = sym (running_high _ _ (omega arith))
 
 pub returns : goal.returns
 returns c = sym (running_some _ _ c.if-running-eq0.false (omega arith))

@@ -10,10 +10,10 @@ pub tally_all-requires : goal.tally_all-requires
 tally_all-requires c = (less_room 8 _ (omega arith) c.requires.0, omega arith)
 
 pub returns-then-kind-eq-OBJECT : goal.returns-then-kind-eq-OBJECT
-returns-then-kind-eq-OBJECT c = object_tallied _ _ _ _ _ _ c.if-kind-eq-OBJECT.true c.requires.1 c.tally_all.ensures
+returns-then-kind-eq-OBJECT c = object_tallied _ _ _ _ _ _ c.if-kind-eq-OBJECT.true c.told-slots c.tally_all.ensures
 
-pub returns-then-empty : goal.returns-then-empty
-returns-then-empty c = empty_tallied _ _ _ _ c.if-kind-eq-OBJECT.false (sym c.empty.ensures ∙ c.if-empty.true)
+pub returns-then-all_zero : goal.returns-then-all_zero
+returns-then-all_zero c = empty_tallied _ _ _ _ c.if-kind-eq-OBJECT.false (sym c.all_zero.ensures ∙ c.if-all_zero.true)
 
 pub returns : goal.returns
-returns c = fault_tallied _ _ _ _ c.if-kind-eq-OBJECT.false (sym c.empty.ensures ∙ c.if-empty.false)
+returns c = fault_tallied _ _ _ _ c.if-kind-eq-OBJECT.false (sym c.all_zero.ensures ∙ c.if-all_zero.false)

@@ -1,7 +1,9 @@
 -- `soundness::tally_slots` meets its contract. The invariant, `Slotting`: if nothing is wrong so far, the slots passed are tallied.
 -- Assumes nothing.
+use Prim.Native.Nat.{◌/◌}
+use lib.ListN.{length}
 use native.Mathlib.Omega.{arith}
-use Rattle.soundness.proofs.Slots.{slots_begin, part_length, room_eight, slots_turn, slots_done}
+use Rattle.soundness.proofs.Slots.{slots_begin, cell_slots, room_eight, slots_turn, slots_done}
 use Rattle.soundness.proofs.tally_slots.Goals as goal
 
 pub loop-c-init : goal.loop-c-init
@@ -10,9 +12,7 @@ loop-c-init c =
 
 pub tally_cell-wrong-requires : goal.tally_cell-wrong-requires
 tally_cell-wrong-requires c =
-    let loop = c.loop-c in
-    let loop-test = c.loop-c-test in
-    (room_eight c.requires.1 loop.invariant loop-test.true, part_length _ _ _ c.requires.1 loop-test.true, omega (arith, loop.invariant.few))
+    (room_eight c.requires.1 c.loop-c.invariant c.loop-c-test.true, omega (arith, c.loop-c.invariant.few))
 
 pub loop-c-preserved : goal.loop-c-preserved
 loop-c-preserved c =
@@ -21,7 +21,7 @@ loop-c-preserved c =
     c.loop-c.invariant _ _
     c.loop-c-test.true
     c.tally_cell-wrong.auto.tally
-    c.tally_cell-wrong.ensures
+    (rw (c.as_chunks.ensures.front, cell_slots c.args.slots.now (length c.args.slots.now / 8) c.loop-c.c (omega (arith, c.requires.1))) at c.tally_cell-wrong.ensures)
 
 pub returns : goal.returns
 returns c = slots_done c.requires.1 c.loop-c.invariant c.loop-c-test.false

@@ -1,19 +1,24 @@
--- `steps::names_call` meets its contract: a law for each answer. Assumes nothing.
-use native.Mathlib.Omega.{arith}
-use mathlib.Core.Path.{sym, ◌∙◌}
-use Rattle.laws.specs.Calls.Asked.{unused_names_none, nought_names_none, above_names_none, names_call}
+-- `steps::names_call` meets its contract: what is named by four numbers is a call. Assumes nothing.
+use mathlib.Core.Path.{◌≡◌, refl, ap, ◌∙◌}
+use Rattle.std.specs.Prelude.{Option, Some, None}
+use Rattle.std.specs.Option.{is_some}
+use Rattle.rules.specs.Asked.{is_call}
+use Rattle.steps.specs.Call.{asked}
+use Rattle.steps.specs.declared.call.Call.{Call}
+use Rattle.steps.specs.declared.call.Call.TheVariants as Is
 use Rattle.steps.proofs.names_call.Goals as goal
 
-pub returns-then-not-arguments_ok : goal.returns-then-not-arguments_ok
-returns-then-not-arguments_ok c = unused_names_none _ _ _ _ (sym c.arguments_ok.ensures ∙ c.if-not-arguments_ok.true)
+named : (o : Option Call) → is_some o ≡ is_call (asked o)
+unfolding is_call
+named (Some (Is.New root kind finalizer)) = refl
+named (Some (Is.Clear root)) = refl
+named (Some (Is.Copy to from)) = refl
+named (Some (Is.Load to object slot)) = refl
+named (Some (Is.Store object slot from)) = refl
+named (Some Is.Collect) = refl
+named (Some (Is.Start root)) = refl
+named (Some Is.Finish) = refl
+named None = refl
 
-pub returns-in-1-to-8 : goal.returns-in-1-to-8
-returns-in-1-to-8 c =
-    names_call _ _ _ _ (sym c.arguments_ok.ensures ∙ c.if-not-arguments_ok.false) (omega arith) (omega arith)
-
-pub returns-in-0 : goal.returns-in-0
-returns-in-0 c = nought_names_none _ _ _ _ (sym c.arguments_ok.ensures ∙ c.if-not-arguments_ok.false) (omega arith)
-
-pub returns-in-0-2 : goal.returns-in-0-2
-returns-in-0-2 c =
-    above_names_none _ _ _ _ (sym c.arguments_ok.ensures ∙ c.if-not-arguments_ok.false) (omega arith)
+pub returns : goal.returns
+returns c = c.is_some.ensures ∙ named c.of.result ∙ ap is_call c.of.ensures

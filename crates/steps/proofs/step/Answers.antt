@@ -1,25 +1,13 @@
--- `steps::step` meets its contract.
--- Assumes nothing.
-use native.Mathlib.Omega.{arith}
-use mathlib.Core.Path.{sym, ◌∙◌}
-use Rattle.laws.specs.Calls.Asked.{call_unused, used_numbers, obeyed_used, obeyed_line}
+-- `steps::step` meets its contract. Assumes nothing.
+use mathlib.Core.Path.{sym, ap, ◌∙◌}
+use Rattle.laws.specs.Calls.Asked.{obeyed_line}
+use Rattle.steps.specs.Call.{asked}
 use Rattle.steps.proofs.step.Goals as goal
 
-pub returns-then-not-arguments_ok : goal.returns-then-not-arguments_ok
-returns-then-not-arguments_ok c =
-    let arguments-ok = c.arguments_ok in
-    let if1 = c.if-not-arguments_ok in
-    let refuse = c.refuse in
-    obeyed_line _ _ _ (call_unused _ _ _ _ (sym arguments-ok.ensures ∙ if1.true)) refuse.ensures
+pub returns-in_default-clause-obeyed : goal.returns-in_default-clause-obeyed
+returns-in_default-clause-obeyed c =
+    obeyed_line _ _ _ (sym c.of.ensures ∙ ap asked c.in_default.is) c.refuse.ensures
 
-pub returns : goal.returns
-returns c =
-    let tested = c.if-not-arguments_ok in
-    let arguments-ok = c.arguments_ok in
-    let entry =
-    c in
-    let a = entry.args in
-    let used =
-    used_numbers a.op a.x a.y a.z (sym arguments-ok.ensures ∙ tested.false)
-    (omega arith) (omega arith) (omega arith) (omega arith) in
-    obeyed_used a.op a.x a.y a.z used c.numbered.ensures (omega arith) (omega arith) (omega arith) (omega arith)
+pub returns-clause-obeyed : goal.returns-clause-obeyed
+returns-clause-obeyed c =
+    rw (ap asked (sym c.in-Some.is) ∙ c.of.ensures, sym c.answered.ensures) at c.obey.ensures.obeyed

@@ -13,10 +13,8 @@ mark_and_sweep-requires c =
     let sound = ready_facts c.requires in
     record {
       sound_but = sound;
-      scratch = start_scratch (length c.args.kind.now) _ unmarked.result (omega (arith, sound.fit.some)) sound.fit.small refl unmarked.ensures.value;
+      scratch = start_scratch (length c.args.tables.now.kind.now) _ unmarked.result (omega (arith, sound.fit.some)) sound.fit.small refl unmarked.ensures.value;
     }
 
-pub returns : goal.returns
-returns c =
-    let mark-and-sweep = c.mark_and_sweep in
-    collect_ran c.requires mark-and-sweep.ensures
+pub returns-clause-ran : goal.returns-clause-ran
+returns-clause-ran c = collect_ran c.requires c.mark_and_sweep.ensures.collected

@@ -5,7 +5,7 @@ use Rattle.tally.proofs.Empty.{four_used, four_empty}
 use Rattle.tally.proofs.four_empty.Goals as goal
 
 pub returns-then-four-ne0 : goal.returns-then-four-ne0
-returns-then-four-ne0 c = sym (four_used _ c.requires c.if-four-ne0.true)
+returns-then-four-ne0 c = sym (four_used _ c.told-four c.if-four-ne0.true)
 
 pub returns : goal.returns
-returns c = four_empty _ c.requires c.if-four-ne0.false
+returns c = four_empty _ c.told-four c.if-four-ne0.false

@@ -1,39 +1,33 @@
--- `tally::tally_all` meets its contract: the fours, and then what is left, are two turns of `Tallying`.
+-- `tally::tally_all` meets its contract: the fours are turns of `Tallying`, and what is left is its end.
 -- Assumes nothing.
-use Prim.Native.Nat.{◌*◌, ◌/◌, ◌-◌}
-use lib.ListN.{length, drop, length-drop}
-use lib.Seq.{length-take-le}
-use mathlib.Core.Path.{sym}
+use Prim.Native.Nat.{◌*◌, ◌/◌}
+use lib.ListN.{length, drop}
+use mathlib.Core.Path.{◌≡◌, ap, ◌∙◌}
 use native.Mathlib.Omega.{arith}
-use Rattle.laws.specs.Sound.Tally.{less_room}
-use Rattle.tally.proofs.Tallying.{tallying_part, room_here, tallying_turn, tallying_done}
+use Rattle.tally.proofs.Tallying.{tallying_begin, room_here, tallying_turn_four, tallying_rest}
 use Rattle.tally.proofs.tally_all.Goals as goal
 
--- the fours are so many references
-pub slice_bounds-tally_fours-end : goal.slice_bounds-tally_fours-end
-slice_bounds-tally_fours-end c =
-    let table = c.args.references.now in
-    sym (length-take-le _ table (omega arith))
+pub loop-four-init : goal.loop-four-init
+loop-four-init c = tallying_begin _ _ _
 
-pub tally_fours-lost-requires : goal.tally_fours-lost-requires
-tally_fours-lost-requires c =
-    let table = c.args.references.now in
-    let long = length-take-le (length table / 4 * 4) table (omega arith) in
-    (less_room _ _ (omega arith) c.requires.0, omega (arith, c.requires.1), omega arith)
+pub tally_four-lost-requires : goal.tally_four-lost-requires
+tally_four-lost-requires c =
+    let cut = c.as_chunks.ensures in
+    room_here c.loop-four.invariant (length c.args.references.now) 4 c.requires.0 c.requires.1 (omega (arith, cut.front_len))
+
+pub loop-four-preserved : goal.loop-four-preserved
+loop-four-preserved c =
+    let cut = c.as_chunks.ensures in
+    tallying_turn_four c.loop-four.four-index c.loop-four.invariant _ _ (omega (arith, cut.front_len)) (rw cut.front at c.tally_four-lost.ensures)
 
 pub tally_each-requires : goal.tally_each-requires
 tally_each-requires c =
-    let tally-fours = c.tally_fours-lost in
-    let table = c.args.references.now in
-    let k = length table / 4 * 4 in
-    let m = length-take-le (length table - k) (drop k table) (omega (arith, length-drop k table)) in
-    room_here (tallying_part table k (omega arith) tally-fours.ensures) (length table) _ c.requires.0 c.requires.1 (omega arith)
+    let cut = c.as_chunks.ensures in
+    room_here c.loop-four.invariant (length c.args.references.now) _ c.requires.0 c.requires.1 (omega (arith, cut.front_len, cut.back_len))
 
 pub returns : goal.returns
 returns c =
-    let tally-fours = c.tally_fours-lost in
-    let tally-each = c.tally_each in
+    let cut = c.as_chunks.ensures in
     let table = c.args.references.now in
-    let k = length table / 4 * 4 in
-    let v = tallying_part table k (omega arith) tally-fours.ensures in
-    tallying_done (tallying_turn v (length table) _ _ (omega arith) (omega arith) tally-each.ensures) (omega arith)
+    let e : length table / 4 * 4 ≡ 4 * c.loop-four.four-index = omega (arith, cut.front_len) in
+    tallying_rest c.loop-four.invariant _ _ _ (cut.back ∙ ap (λ n. drop n table) e) c.tally_each.ensures

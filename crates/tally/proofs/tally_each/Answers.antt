@@ -5,16 +5,16 @@ use native.Mathlib.Omega.{arith}
 use Rattle.tally.proofs.Tallying.{tallying_begin, room_here, tallying_turn_one, tallying_done}
 use Rattle.tally.proofs.tally_each.Goals as goal
 
-pub loop-i-init : goal.loop-i-init
-loop-i-init c = tallying_begin _ _ _
+pub loop-reference-init : goal.loop-reference-init
+loop-reference-init c = tallying_begin _ _ _
 
 pub tally_one-lost-requires : goal.tally_one-lost-requires
 tally_one-lost-requires c =
-    room_here c.loop-i.invariant (length c.args.references.now) 1 c.requires.0 c.requires.1 (omega arith)
+    room_here c.loop-reference.invariant (length c.args.references.now) 1 c.requires.0 c.requires.1 (omega arith)
 
-pub loop-i-preserved : goal.loop-i-preserved
-loop-i-preserved c =
-    tallying_turn_one c.loop-i.invariant _ _ c.loop-i-test.true c.tally_one-lost.ensures
+pub loop-reference-preserved : goal.loop-reference-preserved
+loop-reference-preserved c =
+    tallying_turn_one c.loop-reference.invariant _ _ c.loop-reference-test.true c.tally_one-lost.ensures
 
 pub returns : goal.returns
-returns c = tallying_done c.loop-i.invariant c.loop-i-test.false
+returns c = tallying_done c.loop-reference.invariant c.loop-reference-test.false

@@ -1,29 +1,39 @@
--- `allocation::placing::lowest_free` meets its contract. The invariant: every cell passed is used.
+-- `allocation::placing::lowest_free` meets its contract: the place of the first 0 is the lowest free cell.
 -- Assumes nothing.
-use Prim.Native.Nat.{ℕ, ◌≤◌, ◌<◌}
-use native.Mathlib.Omega.{arith}
-use mathlib.Core.List.{List}
-use mathlib.Core.Logic.{◌≢◌}
-use lib.ListN.{length, get_or}
-use borrow.Author.Count.{below_more}
+use Rattle.std.proofs.Common.{ℕ, ◌+◌, ◌∷◌, zero, suc, ◌≤◌, ◌≡◌, List, length, cond, eqb, ltb, Some, None, refl, rules, arith, tests}
+use Rattle.std.specs.List.{position_or_len}
+use Rattle.std.proofs.lemmas.Iterator.{YieldsList-from_slice}
+use Rattle.std.proofs.lemmas.Iterator.Search.{position_from_yields_List}
+use Rattle.std.proofs.lemmas.List.Recursion.{is_position_or_len}
 use Rattle.rules.specs.Refusals.{lowest_free}
-use Rattle.laws.specs.Calls.Cases.{lowest_is}
 use Rattle.allocation.proofs.placing.lowest_free.Goals as goal
+use Rattle.allocation.proofs.placing.lowest_free.Goals.{After-position}
 
--- where all cells are passed, none is free
-none_free : (kind : List ℕ) (c : ℕ) → c ≤ length kind → ((d : ℕ) → d < c → get_or kind d 0 ≢ 0) → length kind ≤ c → length kind ≤ lowest_free kind
-none_free kind c bound used end = omega (arith, lowest_is kind c bound used (λ l. absurd (omega arith)))
+first_0 : (kind : List ℕ) → lowest_free kind ≡ position_or_len (λ k. eqb k 0) kind
+unfolding lowest_free
+first_0 = is_position_or_len lowest_free (λ k. eqb k 0) refl by_entry
+  where
+    by_entry : (k : ℕ) (kind : List ℕ) → lowest_free (k ∷ kind) ≡ cond (eqb k 0) 0 (1 + lowest_free kind)
+    by_entry zero kind = refl
+    by_entry (suc k) kind = grind arith
 
-pub loop-c-init : goal.loop-c-init
-loop-c-init c = (omega arith, λ d l. absurd (omega arith))
+none_free : (p n : ℕ) → None ≡ cond (ltb p n) (Some p) None → n ≤ p
+none_free p n e = grind arith
 
-pub returns-then-kind-c-eq0 : goal.returns-then-kind-c-eq0
-returns-then-kind-c-eq0 c =
-    let loop = c.loop-c in
-    rw (← lowest_is _ _ loop.invariant.0 loop.invariant.1 (λ l. c.if-kind-c-eq0.true)) c.of.ensures
+some_free : (p n free : ℕ) → Some free ≡ cond (ltb p n) (Some p) None → free ≡ p
+some_free p n free e = grind arith
 
-pub loop-c-preserved : goal.loop-c-preserved
-loop-c-preserved c = (omega arith, below_more _ _ c.loop-c.invariant.1 c.if-kind-c-eq0.false)
+found : (c : After-position) → let free = lowest_free c.args.kind.now in c.position.result ≡ cond (ltb free (length c.args.kind.now)) (Some free) None
+found c =
+    rw (first_0 c.args.kind.now)
+    (position_from_yields_List (λ k. eqb k 0) _ _ _ c.position.ensures.ran (YieldsList-from_slice c.args.kind.now cc) (λ x b q k. search (rules, tests)))
+
+pub returns-in_err-free : goal.returns-in_err-free
+returns-in_err-free c =
+    let is = found (goal.at.returns-in_err-free c).After-position in
+    rw c.from_residual.ensures (none_free _ _ (rw c.in_err-free.was at is))
 
 pub returns : goal.returns
-returns c = none_free _ _ c.loop-c.invariant.0 c.loop-c.invariant.1 (omega arith)
+returns c =
+    let is = found (goal.at.returns c).After-position in
+    rw (← some_free _ _ _ (rw c.in_ok-free.was at is)) c.of.ensures

@@ -1,17 +1,22 @@
--- `allocation::shape::makes` meets its contract: each way out is one law of `new_ok`.
+-- `allocation::shape::makes` meets its contract: each arm is one law of `new_ok`.
 -- Assumes nothing.
-use native.Mathlib.Omega.{arith}
+use Rattle.std.proofs.Common.{arith}
 use Rattle.laws.specs.Calls.Cases.{new_object, new_none, new_high, new_plain}
 use Rattle.allocation.proofs.shape.makes.Goals as goal
 
-pub returns-then-kind-eq1 : goal.returns-then-kind-eq1
-returns-then-kind-eq1 c = new_object _ _ c.if-kind-eq1.true
+pub returns-in-0 : goal.returns-in-0
+returns-in-0 c = new_none _ _ c.in-0.is
 
-pub returns-then-kind-eq0 : goal.returns-then-kind-eq0
-returns-then-kind-eq0 c = new_none _ _ c.if-kind-eq0.true
+pub returns-in-1 : goal.returns-in-1
+returns-in-1 c = new_object _ _ c.in-1.is
 
-pub returns-then-kind-gt3 : goal.returns-then-kind-gt3
-returns-then-kind-gt3 c = new_high _ _ c.if-kind-gt3.true
+pub returns-then-kind-lt4 : goal.returns-then-kind-lt4
+returns-then-kind-lt4 c =
+    let other = c.in_default in
+    let low = c.if-kind-lt4.true in
+    new_plain _ _ (omega arith) (omega arith) (omega arith)
 
-pub returns : goal.returns
-returns c = new_plain _ _ c.if-kind-eq1.false c.if-kind-eq0.false (omega arith)
+pub returns-else-kind-lt4 : goal.returns-else-kind-lt4
+returns-else-kind-lt4 c =
+    let high = c.if-kind-lt4.false in
+    grind (arith, new_high c.args.kind c.args.finalizer)

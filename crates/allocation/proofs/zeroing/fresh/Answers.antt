@@ -5,8 +5,8 @@ use Rattle.laws.specs.Calls.Admission.{tables_eq, fresh_is, fresh_answer}
 use Rattle.laws.specs.Calls.Outer.{fresh_done}
 use Rattle.allocation.proofs.zeroing.fresh.Goals as goal
 
-pub returns : goal.returns
-returns c =
+pub returns-clause-did : goal.returns-clause-did
+returns-clause-did c =
     let zero = c.zero in
     let zero2 = c.zero-2 in
     let zero3 = c.zero-3 in

@@ -5,4 +5,4 @@ use Rattle.tally.proofs.Scratch.{clear}
 use Rattle.audit.proofs.cells.audit_cells.Goals as goal
 
 pub audit_with-requires : goal.audit_with-requires
-audit_with-requires c = (c.requires, clear (length c.args.count.now) 1025 (omega (arith, c.requires.most)))
+audit_with-requires c = (c.requires, clear (length c.args.tables.count.now) 1025 (omega (arith, c.requires.most)))

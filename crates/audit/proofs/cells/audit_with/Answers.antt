@@ -7,7 +7,7 @@ use Rattle.audit.proofs.cells.audit_with.Goals as goal
 pub row_of-requires : goal.row_of-requires
 row_of-requires c =
     let pre = c.requires in
-    ((cells_row pre.0 pre.1 c.tally_three-lost.ensures c.compare-sides.ensures.1).0, pre.0.most)
+    ((cells_row pre.0 pre.1 c.tally_three-lost.ensures c.compare-sides.ensures.sides).0, pre.0.most)
 
 pub returns : goal.returns
 returns c =
@@ -15,6 +15,7 @@ returns c =
     let tallied = c.tally_three-lost.ensures in
     let compared = c.compare-sides.ensures in
     record {
-      table = compared.0 ∙ cells_listed pre.0 pre.1 tallied;
-      row = c.row_of.ensures ∙ (cells_row pre.0 pre.1 tallied compared.1).1;
+      table = compared.table ∙ cells_listed pre.0 pre.1 tallied;
+      row = c.row_of.ensures ∙ (cells_row pre.0 pre.1 tallied compared.sides).1;
+      sixteen = compared.sixteen;
     }

@@ -1,7 +1,8 @@
 -- `audit::cells::compare` meets its contract. The invariant, `Comparing`: the cells passed have their differences written and added.
 -- Assumes nothing.
-use Rattle.std.proofs.Common.{ℕ, ◌≤◌, List, get_or, Fits, ap, arith}
+use Rattle.std.proofs.Common.{ℕ, ◌≤◌, ◌≡◌, List, get_or, Fits, ap, arith}
 use Rattle.std.specs.Int.{w16}
+use Rattle.std.specs.Prelude.{pos}
 use Rattle.std.proofs.lemmas.Int.{ints}
 use Rattle.rules.specs.Audit.{up, down}
 use Rattle.laws.specs.Audit.Integers.{less_difference}
@@ -17,8 +18,12 @@ sixteen count counted fit fit2 i =
     let d = less_difference (get_or count i 0) (get_or counted i 0) in
     (omega (arith, d.over, fit i), omega (arith, d.missing, fit2 i))
 
+-- so far nothing is added up
+nothing : {s : Sides} → (s.below ≡ 0) × ((s.above ≡ 0) × (s.sum ≡ pos 0)) → s ≡ record { below = 0; above = 0; sum = pos 0 }
+nothing e = λ i. record { below = e.0 i; above = e.1.0 i; sum = e.1.1 i }
+
 pub loop-c-init : goal.loop-c-init
-loop-c-init c = comparing_begin _ _ c.requires.0
+loop-c-init c = rw (nothing c.default-sides.ensures) (comparing_begin _ _ c.requires.0)
 
 pub add_cell-sides-requires : goal.add_cell-sides-requires
 add_cell-sides-requires c =

@@ -1,20 +1,14 @@
--- `batch::admission::lists_fit` meets its contract. Assumes nothing.
-use native.Mathlib.Omega.{arith}
-use mathlib.Core.Path.{sym}
-use Rattle.laws.specs.Calls.Batch.{of_lists_fit, not_lists_fit}
+-- `batch::admission::lists_fit` meets its contract.
+-- Assumes nothing.
+use mathlib.Core.Path.{refl}
+use borrow.Author.Tests.{eq-eqb, ne_eqb}
+use Rattle.rules.specs.Batch.{lists_fit}
 use Rattle.batch.proofs.admission.lists_fit.Goals as goal
 
 pub returns-then-records-answers : goal.returns-then-records-answers
-returns-then-records-answers c =
-    let args = c.args in
-    sym (not_lists_fit args.records args.answers (λ f. omega (arith, f.0, c.if-records-answers.true)))
+unfolding lists_fit
+returns-then-records-answers c = rw (eq-eqb _ _ c.if-records-answers.true) refl
 
-pub returns-then-records-gt-RECORDS_MAX : goal.returns-then-records-gt-RECORDS_MAX
-returns-then-records-gt-RECORDS_MAX c =
-    let args = c.args in
-    sym (not_lists_fit args.records args.answers (λ f. omega (arith, f.1, c.if-records-gt-RECORDS_MAX.true)))
-
-pub returns : goal.returns
-returns c =
-    let args = c.args in
-    sym (of_lists_fit args.records args.answers (omega (arith, c.if-records-answers.false)) (omega (arith, c.if-records-gt-RECORDS_MAX.false)))
+pub returns-else-records-answers : goal.returns-else-records-answers
+unfolding lists_fit
+returns-else-records-answers c = rw (ne_eqb _ _ c.if-records-answers.false) refl

@@ -1,42 +1,25 @@
--- `batch::admission::some_ends` meets its contract: a total above `most` could pass its end, and one up to it can't.
+-- `batch::admission::some_ends` meets its contract: the largest total passes what is the most that is let in where one of them does.
 -- Assumes nothing.
+use Prim.Native.Nat.{ℕ, ◌<◌, ◌≤◌}
 use native.Mathlib.Omega.{arith}
-use mathlib.Core.Path.{sym}
-use Rattle.laws.specs.Calls.Batch.{of_room, no_room}
+use mathlib.Core.Path.{◌≡◌, sym, ◌∙◌}
+use Rattle.std.specs.Prelude.{ltb}
+use Rattle.std.proofs.Math.Decide.{dec_lt}
+use Rattle.std.proofs.lemmas.Bool.{lt-ltb, le-ltb}
+use Rattle.rules.specs.declared.batch.Totals.{Totals}
+use Rattle.rules.specs.Batch.{some_ends}
+use Rattle.laws.specs.Calls.Batch.{HasRoom, of_room, no_room}
 use Rattle.batch.proofs.admission.some_ends.Goals as goal
 
-pub overflow_mul-most : goal.overflow_mul-most
-overflow_mul-most c = record { fits = omega (arith, c.requires) }
-
-pub overflow_sub-most : goal.overflow_sub-most
-overflow_sub-most c = omega (arith, c.requires)
-
-pub returns-then-most-t : goal.returns-then-most-t
-returns-then-most-t c =
-    let args = c.args in
-    sym (no_room args.records args.t (λ r. omega (arith, r.0, c.if-most-t.true)))
-
-pub returns-then-most-t-2 : goal.returns-then-most-t-2
-returns-then-most-t-2 c =
-    let args = c.args in
-    sym (no_room args.records args.t (λ r. omega (arith, r.1, c.if-most-t-2.true)))
-
-pub returns-then-most-t-3 : goal.returns-then-most-t-3
-returns-then-most-t-3 c =
-    let args = c.args in
-    sym (no_room args.records args.t (λ r. omega (arith, r.2, c.if-most-t-3.true)))
-
-pub returns-then-most-t-4 : goal.returns-then-most-t-4
-returns-then-most-t-4 c =
-    let args = c.args in
-    sym (no_room args.records args.t (λ r. omega (arith, r.3, c.if-most-t-4.true)))
+decided : (n : ℕ) (t : Totals) {most largest : ℕ} → (most < largest → HasRoom n t → ⊥) → (largest ≤ most → HasRoom n t)
+    → ltb most largest ≡ some_ends n t
+decided n t {most} {largest} none room = elim (dec_lt most largest) [
+  | yes l ↦ lt-ltb most largest l ∙ sym (no_room n t (none l))
+  | no l ↦ le-ltb most largest (omega arith) ∙ sym (of_room n t (room (omega arith)))
+]
 
 pub returns : goal.returns
 returns c =
-    let if1 = c.if-most-t in
-    let if2 = c.if-most-t-2 in
-    let if3 = c.if-most-t-3 in
-    let if4 = c.if-most-t-4 in
-    sym
-    (of_room c.args.records c.args.t
-    (omega (arith, if1.false), omega (arith, if2.false), omega (arith, if3.false), omega (arith, if4.false)))
+    decided _ _
+    (λ over r. omega (arith, over, r, c.max.ensures, c.max-2.ensures, c.max-3.ensures))
+    (λ under. omega (arith, under, c.max.ensures, c.max-2.ensures, c.max-3.ensures))

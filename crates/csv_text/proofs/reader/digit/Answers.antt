@@ -4,11 +4,14 @@ use mathlib.Core.Path.{◌∙◌}
 use Rattle.csv_text.proofs.Cases.{sixth_digit, large_value, next_digit}
 use Rattle.csv_text.proofs.reader.digit.Goals as goal
 
-pub returns-then-digits-ge5 : goal.returns-then-digits-ge5
-returns-then-digits-ge5 c = c.skip.ensures ∙ sixth_digit _ _ (omega arith)
+pub returns-then-s-ge5 : goal.returns-then-s-ge5
+returns-then-s-ge5 c = c.skip.ensures ∙ sixth_digit _ _ (omega arith)
 
-pub returns-then-value-gt65535 : goal.returns-then-value-gt65535
-returns-then-value-gt65535 c = c.skip-then-value-gt65535.ensures ∙ large_value _ _ (omega arith)
+pub returns-in_default : goal.returns-in_default
+returns-in_default c =
+    c.skip-in_default.ensures ∙ large_value _ _ (omega (arith, c.in_default.ensures, c.from.ensures, c.from-2.ensures))
 
 pub returns : goal.returns
-returns c = next_digit _ _ _ _ (omega arith) (omega arith) (omega arith) (omega arith)
+returns c =
+    let fits = c.in-Ok.ensures in
+    next_digit _ _ _ (omega (arith, fits.1, c.from.ensures, c.from-2.ensures)) (omega arith) (omega (arith, fits))

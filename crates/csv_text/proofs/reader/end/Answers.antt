@@ -1,10 +1,10 @@
 -- `csv_text::reader::end` meets its contract: a law for each way that the input can end. Assumes nothing.
 use native.Mathlib.Omega.{arith}
 use mathlib.Core.Path.{◌∙◌, ap}
-use Rattle.csv_text.specs.declared.reader.Last.TheVariants.{Final}
+use mathlib.Core.Logic.{inl, inr}
+use Rattle.std.specs.Prelude.{Some}
 use Rattle.csv_text.proofs.Cases.{closed_lone_cr, closed_nothing, closed_field, closed_digits}
 use Rattle.csv_text.proofs.reader.end.Goals as goal
-use Rattle.csv_text.proofs.reader.end.Goals.{then-s-eq0+else-s-eq0-2, else-s-eq0}
 
 pub returns-then-s-ne0 : goal.returns-then-s-ne0
 returns-then-s-ne0 c = closed_lone_cr _ (λ e. omega arith)
@@ -14,7 +14,7 @@ returns-then-s-eq0-2 c = closed_nothing _ (omega arith) (omega arith) (omega ari
 
 pub returns : goal.returns
 returns c =
-    ap Final c.said.ensures ∙ elim c.if-s-eq0.branch [
-      | then-s-eq0+else-s-eq0-2 w ↦ closed_digits _ (omega arith) (λ e. omega arith)
-      | else-s-eq0 w ↦ closed_field _ (omega arith) (λ e. omega arith)
+    ap Some c.said.ensures ∙ elim c.else-s-eq0.either [
+      | inl digits ↦ closed_digits _ (omega arith) (λ e. omega (arith, digits))
+      | inr field ↦ closed_field _ (omega arith) (λ e. omega (arith, field))
     ]

@@ -7,8 +7,11 @@ use Rattle.dump.proofs.field.digit.Goals as goal
 pub returns-then-digits-ge-DIGITS_MAX : goal.returns-then-digits-ge-DIGITS_MAX
 returns-then-digits-ge-DIGITS_MAX c = c.spoil.ensures ∙ sym (sixth_digit _ _ (omega arith))
 
-pub returns-then-value-gt-VALUE_MAX : goal.returns-then-value-gt-VALUE_MAX
-returns-then-value-gt-VALUE_MAX c = c.spoil-then-value-gt-VALUE_MAX.ensures ∙ sym (large_value _ _ (omega arith))
+pub returns-in_default : goal.returns-in_default
+returns-in_default c =
+    c.spoil-in_default.ensures ∙ sym (large_value _ _ (omega (arith, c.in_default.ensures, c.from.ensures, c.from-2.ensures)))
 
 pub returns : goal.returns
-returns c = next_digit _ _ _ _ (omega arith) (omega arith) (omega arith) (omega arith)
+returns c =
+    let fits = c.in-Ok.ensures in
+    next_digit _ _ _ _ (omega arith) (omega (arith, fits.1, c.from.ensures, c.from-2.ensures)) (omega arith) (omega (arith, fits))

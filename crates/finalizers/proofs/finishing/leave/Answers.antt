@@ -4,7 +4,6 @@ use native.Mathlib.Omega.{arith}
 use Rattle.finalizers.proofs.Leaving.{queue_left}
 use Rattle.finalizers.proofs.finishing.leave.Goals as goal
 
-pub returns : goal.returns
-returns c =
-    let dequeue = c.dequeue in
-    queue_left _ _ _ _ _ _ dequeue.ensures (omega (arith, c.index.ensures, c.requires.names_head)) (omega (arith, c.index-2.ensures, c.requires.runs))
+pub returns-clause-left : goal.returns-clause-left
+returns-clause-left c =
+    queue_left _ _ c.dequeue.ensures.popped (omega (arith, c.index.ensures, c.requires.names_head)) (omega (arith, c.index-2.ensures, c.requires.runs))

@@ -1,116 +1,90 @@
 -- `finalizers::finishing::take_off_both` meets its contract, with a list and without. Assumes nothing.
-use native.Mathlib.Omega.{arith}
-use mathlib.Core.List.{[]}
-use mathlib.Core.Path.{refl}
-use Rattle.release.proofs.Released.{forgotten, listed_many}
-use Rattle.finalizers.proofs.Both.{both_fit, first_ready, second_ready, listed_works, unlisted_works, end_small, queue_grows, took_both}
+use Rattle.std.proofs.Common.{◌+◌, arith}
+use Rattle.rules.specs.Tables.{lent}
+use Rattle.release.specs.Release.{WorkDone}
+use Rattle.rules.specs.Release.{start, release}
+use Rattle.release.proofs.Released.{forgotten}
+use Rattle.finalizers.proofs.Both.{both_fit, second_ready, size₁, control₂, Works, listed_first, listed_works, unlisted_works, end_small, queue_grows, took_both}
 use Rattle.finalizers.proofs.finishing.take_off_both.Goals as goal
+use Rattle.finalizers.proofs.finishing.take_off_both.Goals.{After-release_unlisted-more, After-release-middle, After-release-end}
 
-pub bounds-control-0 : goal.bounds-control-0
-bounds-control-0 c =
-    omega (arith, (both_fit _ _ _ _ _ _ _ _ c.requires).control_size)
+-- what both leave without a list
+unlisted : (c : After-release_unlisted-more) →
+    let many = c.release_unlisted-many in
+    let more = c.release_unlisted-more in
+    Works c.requires c.args.freed.now (lent many.new.tables) c.args.freed.now (0 + many.result)
+    (lent more.new.tables) c.args.freed.now (0 + many.result + more.result)
+unlisted c =
+    unlisted_works c.requires c.args.freed.now c.if-freed-tables.true
+    c.release_unlisted-many.ensures.counted c.release_unlisted-more.ensures.counted
 
-pub release_unlisted-many-requires : goal.release_unlisted-many-requires
-release_unlisted-many-requires c =
-    first_ready _ _ _ _ _ _ _ _ c.requires _ refl
+-- what the first leaves with one
+first : (c : After-release-middle) →
+    let middle = c.release-middle in
+    WorkDone (release (start (lent c.args.tables.now)) c.args.first) (lent middle.new.tables) c.args.freed.now 0 middle.new.freed middle.result
+first c =
+    listed_first c.requires (omega (arith, c.if-freed-tables.false)) c.release-middle.auto.freed c.release-middle.ensures.listed
+
+-- what both leave with one
+listed : (c : After-release-end) →
+    let middle = c.release-middle in
+    let end = c.release-end in
+    Works c.requires c.args.freed.now (lent middle.new.tables) middle.new.freed middle.result (lent end.new.tables) end.new.freed end.result
+listed c =
+    let middle = c.release-middle in
+    let end = c.release-end in
+    listed_works c.requires (omega (arith, c.if-freed-tables.false)) middle.ensures.listed end.ensures.listed middle.auto.freed end.auto.freed
+
+pub bounds-tables-0 : goal.bounds-tables-0
+bounds-tables-0 c = omega (arith, (both_fit c.requires).control_size)
 
 pub release_unlisted-more-requires : goal.release_unlisted-more-requires
 release_unlisted-more-requires c =
-    let release-unlisted = c.release_unlisted-many in
-    forgotten _ _ _ _ _ _ _ _
-    (second_ready _ _ _ _ _ _ _ _ c.requires _ _ _ _ _ _ release-unlisted.result release-unlisted.ensures.heap release-unlisted.ensures.freed)
-
-pub bounds-control-0-then-freed-kind : goal.bounds-control-0-then-freed-kind
-bounds-control-0-then-freed-kind c =
-    let release-unlisted = c.release_unlisted-many in
-    let release-unlisted2 = c.release_unlisted-more in
-    omega (arith, (both_fit _ _ _ _ _ _ _ _ c.requires).control_size, release-unlisted.auto.control, release-unlisted2.auto.control)
+    let many = c.release_unlisted-many.ensures.counted in
+    forgotten (second_ready c.requires many.heap many.freed)
 
 pub overflow_add-many : goal.overflow_add-many
-overflow_add-many c =
-    let if1 = c.if-freed-kind in
-    let release-unlisted = c.release_unlisted-many in
-    let release-unlisted2 = c.release_unlisted-more in
-    let works = unlisted_works _ _ _ _ _ _ _ _ c.requires {l = c.args.freed.now} (omega (arith, if1.true)) release-unlisted.ensures release-unlisted2.ensures
-    release-unlisted.auto.kind release-unlisted2.auto.kind refl in
-    omega (arith, end_small _ _ _ _ _ _ _ _ c.requires works)
+overflow_add-many c = omega (arith, end_small c.requires (unlisted (goal.at.overflow_add-many c).After-release_unlisted-more))
 
-pub overflow_sub-after : goal.overflow_sub-after
-overflow_sub-after c =
-    let if1 = c.if-freed-kind in
-    let release-unlisted = c.release_unlisted-many in
-    let release-unlisted2 = c.release_unlisted-more in
-    let works = unlisted_works _ _ _ _ _ _ _ _ c.requires {l = c.args.freed.now} (omega (arith, if1.true)) release-unlisted.ensures release-unlisted2.ensures
-    release-unlisted.auto.kind release-unlisted2.auto.kind refl in
-    queue_grows _ _ _ _ _ _ _ _ c.requires works []
+pub bounds-tables-0-then-freed-tables : goal.bounds-tables-0-then-freed-tables
+bounds-tables-0-then-freed-tables c =
+    let many = c.release_unlisted-many.ensures.counted in
+    omega (arith, control₂ c.requires many.heap many.freed c.release_unlisted-more.ensures.counted.heap)
+
+pub overflow_sub-tables : goal.overflow_sub-tables
+overflow_sub-tables c = queue_grows c.requires (unlisted (goal.at.overflow_sub-tables c).After-release_unlisted-more)
 
 pub finished-requires : goal.finished-requires
-finished-requires c =
-    let if1 = c.if-freed-kind in
-    let release-unlisted = c.release_unlisted-many in
-    let release-unlisted2 = c.release_unlisted-more in
-    let works = unlisted_works _ _ _ _ _ _ _ _ c.requires {l = c.args.freed.now} (omega (arith, if1.true)) release-unlisted.ensures release-unlisted2.ensures
-    release-unlisted.auto.kind release-unlisted2.auto.kind refl in
-    omega (arith, end_small _ _ _ _ _ _ _ _ c.requires works)
+finished-requires c = omega (arith, end_small c.requires (unlisted (goal.at.finished-requires c).After-release_unlisted-more))
 
-pub returns-then-freed-kind : goal.returns-then-freed-kind
-returns-then-freed-kind c =
-    let if1 = c.if-freed-kind in
-    let release-unlisted = c.release_unlisted-many in
-    let release-unlisted2 = c.release_unlisted-more in
-    let finished = c.finished in
-    let works = unlisted_works _ _ _ _ _ _ _ _ c.requires {l = c.args.freed.now} (omega (arith, if1.true)) release-unlisted.ensures release-unlisted2.ensures
-    release-unlisted.auto.kind release-unlisted2.auto.kind refl in
-    λ roots. rw finished.ensures (took_both _ _ _ _ _ _ _ _ c.requires works roots _ _ _ _ (omega arith) (omega arith) (omega arith) (omega arith))
+pub returns-then-freed-tables-clause-finished : goal.returns-then-freed-tables-clause-finished
+returns-then-freed-tables-clause-finished c =
+    let works = unlisted (goal.at.returns-then-freed-tables-clause-finished c).After-release_unlisted-more in
+    rw c.finished.ensures (took_both c.requires works _ _ _ _ (omega arith) (omega arith) (omega arith) (omega arith))
 
-pub release-middle-requires : goal.release-middle-requires
-release-middle-requires c =
-    let if1 = c.if-freed-kind in
-    record {
-      releasable = first_ready _ _ _ _ _ _ _ _ c.requires _ (omega arith);
-      kind_in_bounds = omega (arith, if1.false);
-    }
+pub release-end-requires-clause-releasable : goal.release-end-requires-clause-releasable
+release-end-requires-clause-releasable c =
+    let done = first (goal.at.release-end-requires-clause-releasable c).After-release-middle in
+    second_ready c.requires done.heap (omega (arith, done.many))
 
-pub release-end-requires : goal.release-end-requires
-release-end-requires c =
-    let if1 = c.if-freed-kind in
-    let release = c.release-middle in
-    let many = listed_many (omega arith) (omega (arith, if1.false, release.auto.kind, release.auto.freed)) release.ensures in
-    record {
-      releasable = second_ready _ _ _ _ _ _ _ _ c.requires _ _ _ _ _ _ _ release.ensures.heap (omega (arith, many));
-      kind_in_bounds = omega (arith, if1.false, release.auto.kind, release.auto.freed);
-    }
+pub release-end-requires-clause-kind_in_bounds : goal.release-end-requires-clause-kind_in_bounds
+release-end-requires-clause-kind_in_bounds c =
+    let middle = c.release-middle in
+    let done = first (goal.at.release-end-requires-clause-kind_in_bounds c).After-release-middle in
+    omega (arith, c.if-freed-tables.false, middle.auto.freed, size₁ c.requires {d = middle.result} done.heap (omega (arith, done.many)))
 
-pub bounds-control-0-2 : goal.bounds-control-0-2
-bounds-control-0-2 c =
-    let release = c.release-middle in
-    let release2 = c.release-end in
-    omega (arith, (both_fit _ _ _ _ _ _ _ _ c.requires).control_size, release.auto.control, release2.auto.control)
+pub bounds-tables-0-2 : goal.bounds-tables-0-2
+bounds-tables-0-2 c =
+    let done = first (goal.at.bounds-tables-0-2 c).After-release-middle in
+    omega (arith, control₂ c.requires {d = c.release-middle.result} done.heap (omega (arith, done.many)) c.release-end.ensures.listed.heap)
 
-pub overflow_sub-after-2 : goal.overflow_sub-after-2
-overflow_sub-after-2 c =
-    let if1 = c.if-freed-kind in
-    let release = c.release-middle in
-    let release2 = c.release-end in
-    let works = listed_works _ _ _ _ _ _ _ _ c.requires (omega (arith, if1.false)) release.ensures release2.ensures
-    release.auto.kind release2.auto.kind release.auto.freed release2.auto.freed in
-    queue_grows _ _ _ _ _ _ _ _ c.requires works []
+pub overflow_sub-tables-2 : goal.overflow_sub-tables-2
+overflow_sub-tables-2 c = queue_grows c.requires (listed (goal.at.overflow_sub-tables-2 c).After-release-end)
 
 pub finished-requires-2 : goal.finished-requires-2
-finished-requires-2 c =
-    let if1 = c.if-freed-kind in
-    let release = c.release-middle in
-    let release2 = c.release-end in
-    let works = listed_works _ _ _ _ _ _ _ _ c.requires (omega (arith, if1.false)) release.ensures release2.ensures
-    release.auto.kind release2.auto.kind release.auto.freed release2.auto.freed in
-    omega (arith, end_small _ _ _ _ _ _ _ _ c.requires works)
+finished-requires-2 c = omega (arith, end_small c.requires (listed (goal.at.finished-requires-2 c).After-release-end))
 
-pub returns : goal.returns
-returns c =
-    let if1 = c.if-freed-kind in
-    let release = c.release-middle in
-    let release2 = c.release-end in
-    let finished2 = c.finished-2 in
-    let works = listed_works _ _ _ _ _ _ _ _ c.requires (omega (arith, if1.false)) release.ensures release2.ensures
-    release.auto.kind release2.auto.kind release.auto.freed release2.auto.freed in
-    λ roots. rw finished2.ensures (took_both _ _ _ _ _ _ _ _ c.requires works roots _ _ _ _ (omega arith) (omega arith) (omega arith) (omega arith))
+pub returns-clause-finished : goal.returns-clause-finished
+returns-clause-finished c =
+    let works = listed (goal.at.returns-clause-finished c).After-release-end in
+    rw c.finished-2.ensures (took_both c.requires works _ _ _ _ (omega arith) (omega arith) (omega arith) (omega arith))

@@ -4,13 +4,8 @@ use mathlib.Core.Path.{sym, ◌∙◌}
 use Rattle.laws.specs.Calls.Outer.{admission_misfit, admission_fit}
 use Rattle.heap_c.proofs.freed.admit_lent.Goals as goal
 
-pub returns-then-freed-kind : goal.returns-then-freed-kind
-returns-then-freed-kind c =
-    let if1 = c.if-freed-kind in
-    sym (admission_misfit _ _ (λ e. omega (arith, if1.true)))
+pub returns-then-freed-tables : goal.returns-then-freed-tables
+returns-then-freed-tables c = sym (admission_misfit _ _ (λ e. omega (arith, c.if-freed-tables.true)))
 
 pub returns : goal.returns
-returns c =
-    let admit = c.admit in
-    let if1 = c.if-freed-kind in
-    admit.ensures ∙ sym (admission_fit _ _ (omega (arith, if1.false)))
+returns c = c.admit.ensures ∙ sym (admission_fit _ _ (omega (arith, c.if-freed-tables.false)))

@@ -1,34 +1,22 @@
 -- `heap_c::sweeping::vek_collect` meets its contract: refused by what `admit_lent` answers, or as the function on a sound heap does.
 -- Assumes nothing.
 use mathlib.Core.Path.{refl}
+use Rattle.std.proofs.Common.{rules}
 use Rattle.rules.specs.Refusals.{is_fresh}
-use Rattle.laws.specs.Calls.Outer.{outer_refused, outer_ready, ran_fits, outer_ran}
+use Rattle.heap_c.proofs.Entries.{refused_first, ready_now, list_fits, did}
 use Rattle.heap_c.proofs.sweeping.vek_collect.Goals as goal
 
-pub returns-then-why-ne-DONE : goal.returns-then-why-ne-DONE
-returns-then-why-ne-DONE c =
-    let admit-lent = c.admit_lent-why in
-    let if1 = c.if-why-ne-DONE in
-    let refuse = c.refuse in
-    outer_refused (unfold is_fresh in refl) admit-lent.ensures if1.true refuse.ensures
+pub returns-in-Err : goal.returns-in-Err
+unfolding is_fresh
+returns-in-Err c = refused_first _ _ refl c.in-Err.ensures c.refuse.ensures
 
 pub collect-answer-requires : goal.collect-answer-requires
-collect-answer-requires c =
-    let admit-lent = c.admit_lent-why in
-    let if1 = c.if-why-ne-DONE in
-    (outer_ready admit-lent.ensures if1.false).ready
+collect-answer-requires c = ready_now _ c.in_default.ensures
 
 pub end_list-requires : goal.end_list-requires
-end_list-requires c =
-    let admit-lent = c.admit_lent-why in
-    let if1 = c.if-why-ne-DONE in
-    let collect = c.collect-answer in
-    ran_fits (outer_ready admit-lent.ensures if1.false).sized collect.ensures
+end_list-requires c = list_fits _ c.in_default.ensures refl c.collect-answer.ensures.ran
 
 pub returns : goal.returns
 returns c =
-    let admit-lent = c.admit_lent-why in
-    let if1 = c.if-why-ne-DONE in
-    let collect = c.collect-answer in
-    let end_List = c.end_list in
-    outer_ran (outer_ready admit-lent.ensures if1.false).sized collect.ensures collect.auto.freed end_List.ensures
+    let did-so = did _ c.in_default.ensures refl c.collect-answer.ensures.ran c.collect-answer.auto.freed c.end_list.ensures in
+    search (rules, did-so)

@@ -9,24 +9,24 @@ use Rattle.report.proofs.Texts.{room_first, room_rest}
 use Rattle.report.proofs.Widths.{heap_width}
 use Rattle.report.proofs.lines.heap_line.Goals as goal
 
-pub put_column-a-requires : goal.put_column-a-requires
+pub put_field-a-requires : goal.put_field-a-requires
 unfolding heap_line
-put_column-a-requires c =
+put_field-a-requires c =
     let a = c.args in
     let room : Room a.out.now 0 (heap_line a.heap a.row) = record { enough = omega (arith, heap_width a.heap a.row c.ranges.heap.fits (search rules)) } in
-    room_first ((44 ∷ []) ++ columns a.row) room
+    (room_first ((44 ∷ []) ++ columns a.row) room).enough
 
 pub put_row-requires : goal.put_row-requires
 unfolding heap_line
 put_row-requires c =
     let a = c.args in
     let room : Room a.out.now 0 (heap_line a.heap a.row) = record { enough = omega (arith, heap_width a.heap a.row c.ranges.heap.fits (search rules)) } in
-    room_rest ((44 ∷ []) ++ columns a.row) c.put_column-a.ensures room
+    room_rest ((44 ∷ []) ++ columns a.row) c.put_field-a.ensures room
 
 pub returns : goal.returns
 unfolding heap_line
 returns c =
-    let line = wrote_more _ _ _ _ _ _ _ _ c.put_column-a.ensures c.put_row.ensures in
+    let line = wrote_more _ _ _ _ _ _ _ _ c.put_field-a.ensures c.put_row.ensures in
     record {
       wrote = line;
       upper_bound = omega (arith, line.end, heap_width c.args.heap c.args.row c.ranges.heap.fits (search rules));

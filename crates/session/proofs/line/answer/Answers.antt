@@ -1,28 +1,26 @@
--- `session::line::answer` meets its contract, by cases on what the line says. Assumes nothing.
-use mathlib.Core.Path.{sym}
+-- `session::line::answer` meets its contract: what four numbers ask for, or a line that is not four numbers. Assumes nothing.
+use mathlib.Core.Path.{refl, sym}
 use Rattle.rules.specs.Calls.{refuse}
 use Rattle.rules.specs.Asked.{obey as obeys}
 use Rattle.session.specs.Session.{asked_of, number_of}
 use Rattle.session.proofs.line.answer.Goals as goal
 
-pub returns-in-Numbers : goal.returns-in-Numbers
-unfolding asked_of number_of
-returns-in-Numbers c =
-    let obey = c.obey-a in
-    let write-answer = c.write_answer in
-    record {
-      control_after = rw c.in-Numbers.is obey.ensures.heap;
-      wrote = rw c.in-Numbers.is (rw (sym obey.ensures.answered) write-answer.ensures.wrote);
-      upper_bound = write-answer.ensures.upper_bound;
-    }
+pub returns-in-Ok-clause-after : goal.returns-in-Ok-clause-after
+unfolding asked_of
+returns-in-Ok-clause-after c =
+    let obeyed = rw (c.from.ensures, c.from-in-Ok.ensures, c.from-in-Ok-2.ensures) at c.obey-a.ensures.obeyed in
+    rw c.in-Ok.is obeyed.heap
 
-pub returns-in-Malformed : goal.returns-in-Malformed
+pub returns-in-Ok-clause-wrote : goal.returns-in-Ok-clause-wrote
+unfolding asked_of number_of
+returns-in-Ok-clause-wrote c =
+    let obeyed = rw (c.from.ensures, c.from-in-Ok.ensures, c.from-in-Ok-2.ensures) at c.obey-a.ensures.obeyed in
+    rw c.in-Ok.is (rw (sym obeyed.answered) c.write_answer.ensures.wrote)
+
+pub returns-in-Err-clause-after : goal.returns-in-Err-clause-after
+unfolding asked_of obeys refuse
+returns-in-Err-clause-after c = rw c.in-Err.is refl
+
+pub returns-in-Err-clause-wrote : goal.returns-in-Err-clause-wrote
 unfolding asked_of number_of obeys refuse
-returns-in-Malformed c =
-    let refuse = c.refuse in
-    let write-answer2 = c.write_answer-in-Malformed in
-    record {
-      control_after = rw c.in-Malformed.is;
-      wrote = rw c.in-Malformed.is (rw refuse.ensures at write-answer2.ensures.wrote);
-      upper_bound = write-answer2.ensures.upper_bound;
-    }
+returns-in-Err-clause-wrote c = rw c.in-Err.is (rw c.refuse.ensures at c.write_answer-in-Err.ensures.wrote)

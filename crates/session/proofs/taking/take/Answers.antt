@@ -1,66 +1,40 @@
--- `session::taking::take` meets its contract. The loop: the tables are admitted, or not, as they were at the start, and some of the bytes are taken.
+-- `session::taking::take` meets its contract. The loop: the tables are admitted, or not, as they were at the start, and the bytes so far are taken.
 -- Assumes nothing.
 use native.Mathlib.Omega.{arith}
-use mathlib.Core.Path.{refl, ◌∙◌}
-use Rattle.session.proofs.Sizes.{same_sizes}
+use mathlib.Core.Path.{refl, sym, ◌∙◌}
+use Rattle.std.proofs.Common.{rules}
 use Rattle.session.proofs.Underway.{underway_begin, underway_byte, underway_full, underway_all, took_admission}
 use Rattle.session.proofs.taking.take.Goals as goal
 
-pub loop-p-init : goal.loop-p-init
-loop-p-init c =
-    let admit = c.admit-why in
-    (admit.ensures, same_sizes _, refl, underway_begin _ _ _ _)
+pub loop-byte-init : goal.loop-byte-init
+loop-byte-init c = record {
+  admitted = c.admit-admitted.ensures;
+  same = (refl, refl, refl, refl, refl, refl, refl);
+  room = refl;
+  taken = refl;
+  underway = underway_begin _ _ _ _;
+}
 
-pub returns-then-out-at-lt-ANSWER_LEN : goal.returns-then-out-at-lt-ANSWER_LEN
-returns-then-out-at-lt-ANSWER_LEN c =
-    let loop = c.loop-p in
-    let if1 = c.loop-p-test in
+pub returns-then-out-p-lt-ANSWER_LEN-clause-bytes_taken : goal.returns-then-out-p-lt-ANSWER_LEN-clause-bytes_taken
+returns-then-out-p-lt-ANSWER_LEN-clause-bytes_taken c =
+    let loop = c.loop-byte.invariant in
+    underway_full _ _ _ _ _ _ _ loop.underway (omega (arith, loop.taken, c.loop-byte-test.true)) (omega arith)
+
+pub loop-byte-preserved : goal.loop-byte-preserved
+loop-byte-preserved c =
+    let loop = c.loop-byte.invariant in
+    let byte = rw (sym loop.taken) at c.take_byte-p.ensures.byte_taken in
     record {
-      bytes_taken = underway_full _ _ _ _ _ _ _ loop.invariant.3 if1.true (omega arith);
-      written_bound = loop.invariant.3.each;
+      admitted = took_admission byte loop.admitted;
+      same = search rules;
+      room = c.take_byte-p.auto.out ∙ loop.room;
+      taken = omega (arith, byte.count, loop.taken);
+      underway =
+          underway_byte _ _ _ _ _ _ _ _ _ _ loop.underway
+          (omega (arith, loop.taken, c.loop-byte-test.true))
+          (omega (arith, c.if-out-p-lt-ANSWER_LEN.false, loop.room, loop.underway.room))
+          byte;
     }
 
-pub overflow_add-taken : goal.overflow_add-taken
-overflow_add-taken c =
-    let if1 = c.loop-p-test in
-    let good = c.well_formed in
-    omega (arith, if1.true, good.1.1.1.1.1.1.1.1.0)
-
-pub take_byte-p-requires : goal.take_byte-p-requires
-take_byte-p-requires c =
-    let loop = c.loop-p in
-    record {
-      why_value = loop.invariant.0;
-      at_in_bounds = omega arith;
-    }
-
-pub loop-p-smaller : goal.loop-p-smaller
-loop-p-smaller c = omega arith
-
-pub loop-p-preserved : goal.loop-p-preserved
-loop-p-preserved c =
-    let take-byte = c.take_byte-p in
-    let loop = c.loop-p in
-    let if1 = c.loop-p-test in
-    let if2 = c.if-out-at-lt-ANSWER_LEN in (
-      took_admission take-byte.ensures loop.invariant.0,
-      record {
-        kind = take-byte.auto.kind ∙ loop.invariant.1.kind;
-        flags = take-byte.auto.flags ∙ loop.invariant.1.flags;
-        count = take-byte.auto.count ∙ loop.invariant.1.count;
-        slots = take-byte.auto.slots ∙ loop.invariant.1.slots;
-        roots = take-byte.auto.roots ∙ loop.invariant.1.roots;
-        queue = take-byte.auto.queue ∙ loop.invariant.1.queue;
-        control = take-byte.auto.control ∙ loop.invariant.1.control;
-      },
-      take-byte.auto.out ∙ loop.invariant.2,
-      underway_byte _ _ _ _ _ _ _ _ _ _ loop.invariant.3 if1.true (omega (arith, if2.false, loop.invariant.2, loop.invariant.3.room)) take-byte.ensures,
-    )
-
-pub returns : goal.returns
-returns c =
-    let loop = c.loop-p in
-    record {
-      bytes_taken = underway_all _ _ _ _ _ _ _ loop.invariant.3 (omega arith);
-      written_bound = loop.invariant.3.each;
-    }
+pub returns-clause-bytes_taken : goal.returns-clause-bytes_taken
+returns-clause-bytes_taken c = underway_all _ _ _ _ _ _ _ c.loop-byte.invariant.underway (omega arith)

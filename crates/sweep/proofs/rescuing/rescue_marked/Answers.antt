@@ -15,32 +15,13 @@ pub loop-c-init : goal.loop-c-init
 loop-c-init c =
     (omega arith, refl, rescued_start (is_rescued c.args.flags.now (bits_of (length c.args.flags.now) c.args.marked.now)))
 
-pub returns-in_default : goal.returns-in_default
-returns-in_default c =
-    let of = c.of in
-    absurd (omega (arith, c.in_default.ensures))
-
-pub rescue_cell-requires : goal.rescue_cell-requires
-rescue_cell-requires c =
-    let of = c.of in
-    let loop = c.loop-c in
-    let is = c.in-Is.ensures in
-    let here : c.in-Is.cell.0 ≡ loop.c = omega arith in
-    (omega arith, omega arith)
-
-pub overflow_step-c : goal.overflow_step-c
-overflow_step-c c = omega arith
-
-pub loop-c-smaller : goal.loop-c-smaller
-loop-c-smaller c = omega arith
-
 pub loop-c-preserved : goal.loop-c-preserved
 loop-c-preserved c =
     let of = c.of in
     let loop = c.loop-c in
     let rescue-cell = c.rescue_cell in
-    let is = c.in-Is.ensures in
-    let here : c.in-Is.cell.0 ≡ loop.c = omega arith in (
+    let is = c.in-Some.ensures in
+    let here : c.in-Some.cell.0 ≡ loop.c = omega arith in (
       omega arith,
       rescue-cell.auto.flags ∙ loop.invariant.1,
       rescued_next (bits_of (length c.args.flags.now) c.args.marked.now) loop.c (omega arith) loop.invariant.2

@@ -1,5 +1,5 @@
 -- `sweep::rescuing::rescue_marked` meets its contract: none while cells were waiting; else the cells below `c` that are rescued have flags 1. Assumes nothing.
-use Prim.Native.Nat.{◌-◌, ◌≤◌}
+use Prim.Native.Nat.{◌≤◌}
 use mathlib.Core.Path.{◌≡◌}
 use lib.ListN.{length}
 use Rattle.rules.specs.Lists.{select}
@@ -10,6 +10,3 @@ use Rattle.sweep.proofs.rescuing.rescue_marked.Given as goal
 abbrev pub invariant-loop-c : goal.invariant-loop-c
 invariant-loop-c l =
     (l.c ≤ length l.initial.flags) × (length l.flags ≡ length l.initial.flags) × Restored l.initial.flags (select (is_rescued l.initial.flags (bits_of (length l.initial.flags) l.marked)) l.c) l.flags
-
-abbrev pub decreases-loop-c : goal.decreases-loop-c
-decreases-loop-c l = length l.initial.flags - l.c

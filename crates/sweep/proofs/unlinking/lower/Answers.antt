@@ -6,16 +6,16 @@ use Rattle.sweep.proofs.unlinking.lower.Goals as goal
 pub returns-then-reference-eq0 : goal.returns-then-reference-eq0
 returns-then-reference-eq0 c = taken_off_empty c.args.reference (omega (arith, c.if-reference-eq0.true))
 
-pub bounds-count-c : goal.bounds-count-c
-bounds-count-c c =
+pub bounds-count-reference : goal.bounds-count-reference
+bounds-count-reference c =
     omega (arith, count_inside c.args.reference c.if-reference-eq0.false c.requires)
 
-pub overflow_sub-count : goal.overflow_sub-count
-overflow_sub-count c =
+pub overflow_sub-count-2 : goal.overflow_sub-count-2
+overflow_sub-count-2 c =
     omega (arith, count_above_zero c.args.reference c.if-reference-eq0.false c.requires)
 
-pub bounds-count-c-2 : goal.bounds-count-c-2
-bounds-count-c-2 c =
+pub bounds-count-reference-2 : goal.bounds-count-reference-2
+bounds-count-reference-2 c =
     omega (arith, count_inside c.args.reference c.if-reference-eq0.false c.requires)
 
 pub returns : goal.returns

@@ -4,7 +4,4 @@ use Rattle.words.proofs.UsedWords.{Upper}
 use Rattle.words.proofs.used.used_word.Given as goal
 
 abbrev pub invariant-loop-c : goal.invariant-loop-c
-invariant-loop-c l = Upper l.kind (64 * l.j) l.initial.c l.c l.word
-
-abbrev pub decreases-loop-c : goal.decreases-loop-c
-decreases-loop-c l = l.c
+invariant-loop-c l = Upper l.kind (64 * l.j) l.end l.c l.word
