@@ -21,7 +21,7 @@ WIDTH = 200
 TEXT = r'"(?:\\.|[^"\\])*"'
 WORD = r'[^\s(){}.;,@"«»]+'
 USE = re.compile(r"^(?:unfoldable )?(pub )?(?:ghost )?use ([^\s{};]+?)(?:(\.|::)\{([^}]*)\}| as (\S+?))?;?$", re.M)
-CLAUSE = re.compile(r"\b(?:requires|ensures)\*?(?: \w+)? \{|\bghost \w+ = \{")
+CLAUSE = re.compile(r"\b(?:requires|ensures)\*?(?: \w+)? \{|\bghost \w+(?: =|:) \{")
 # The line that begins a definition: marks, a name or several, a colon. A clause has none before its `=`.
 MARKS = r"( *)(?:(?:unfoldable|abbrev|pub|axiom) )*"
 NAMES = rf"(?!let |\| )({WORD}(?: (?!= ){WORD})*?)(?: \{{[^}}=:]*\}})?"
@@ -220,7 +220,7 @@ def exists(path):
         place /= rest.pop(0)
     sources = [place / "lib.rt", place / "main.rt", place.with_suffix(".rt")]
     text = "".join(source.read_text() for source in sources if source.is_file())
-    return all(re.search(rf"\b(?:fn|struct|enum|const|mod) {name}\b|\bpub use \S+::{name};", text) for name in rest)
+    return all(re.search(rf"\b(?:fn|struct|enum|const|mod) {name}\b|\bpub use \S+::(?:{name}|\{{(?:[^}}]*\W)?{name}\b[^}}]*\}});", text) for name in rest)
 
 
 def lost_names(files):

@@ -5,5 +5,5 @@ mod placing;
 mod shape;
 mod zeroing;
 
-pub use placing::new;
+pub use placing::{new, new_shared};
 pub use zeroing::{fresh, zero};

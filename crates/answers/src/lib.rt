@@ -4,7 +4,7 @@
 
 ghost use Rattle.std.specs.Prelude.{◌≡◌, ◌<◌};
 ghost use Rattle.rules.specs.Calls.{answers};
-ghost use Rattle.rules.specs.Refused.{number_of, answer_of};
+ghost use Rattle.rules.specs.Refused.{answer_of};
 
 use rules::refusal::Refusal;
 use rules::{Answer, DONE};
@@ -21,9 +21,9 @@ fn bare_answer(refused: u16) -> Answer
     }
 }
 
-// The answer of a call that is refused.
-pub fn refuse(why: Refusal) -> Answer
-    ensures { result ≡ answers (number_of why) 0 0 0 }
+// The answer of a call that is refused, by the number or by the reason.
+pub fn refuse<N: Into<u16>>(why: N) -> Answer
+    ensures { (N.converts why result.refused) × (result ≡ answers result.refused 0 0 0) }
 {
     bare_answer(why.into())
 }

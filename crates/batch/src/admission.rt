@@ -2,13 +2,12 @@
 // `as` widens here: From says no more, and each use of it is a further step for the proof.
 ghost use Rattle.std.specs.Prelude.{◌≡◌, ◌≤◌};
 ghost use Rattle.rules.specs.Refused.{refused};
-ghost use Rattle.rules.specs.Tables.{lent};
 ghost use Rattle.rules.specs.Batch.{lists_fit, some_ends, batch_refusal};
 
 use rules::CELLS_MAX;
 use rules::batch::{RECORDS_MAX, Totals};
 use rules::refusal::Refusal;
-use rules::tables::TablesMut;
+use rules::tables::Readable;
 use soundness::admit;
 
 // Whether the lists have one length, and one that a batch may have.
@@ -28,13 +27,13 @@ fn some_ends(records: usize, t: Totals) -> bool
 }
 
 // SIZE where the tables or the lists don't fit, else DAMAGED where the heap is not sound, else TOTAL where a total could pass its end.
-pub fn admit_batch(
-    tables: &TablesMut,
+pub fn admit_batch<T: Readable>(
+    tables: &T,
     records: usize,
     answers: usize,
     totals: Totals,
 ) -> Result<(), Refusal>
-    ensures { refused result ≡ batch_refusal (lent tables.now) records answers totals }
+    ensures { refused result ≡ batch_refusal (T.heap tables.now) records answers totals }
 {
     if !lists_fit(records, answers) {
         return Err(Refusal::Size);

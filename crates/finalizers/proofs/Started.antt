@@ -6,6 +6,9 @@ use native.Mathlib.Omega.{arith}
 use mathlib.Core.List.{List, map}
 use mathlib.Core.Path.{◌≡◌, refl, ap, ◌∙◌}
 use lib.ListN.{length, take, set}
+use Rattle.std.proofs.Common.{Result, Ok, Err}
+use Rattle.std.specs.Result.{IsErrAnd}
+use Rattle.numbers.specs.declared.below.Below.{Below}
 use Rattle.rules.specs.declared.Answer.{Answer}
 use Rattle.rules.specs.declared.refusal.Refusal.{Refusal}
 use Rattle.rules.specs.Refused.{number_of}
@@ -18,8 +21,9 @@ use Rattle.rules.specs.Calls.{answers, done, start_run, act}
 use Rattle.laws.specs.Sound.Facts.{ready_facts}
 use Rattle.laws.specs.Calls.Admission.{tables_eq}
 use Rattle.laws.specs.Calls.Finish.{head_object}
-use Rattle.laws.specs.Calls.Inner.{Ran, inner_refused}
+use Rattle.laws.specs.Calls.Inner.{Ran, inner_refused, inner_done}
 use Rattle.rules.proofs.Refusing.{refuses}
+use Rattle.finalizers.specs.Start.{Chosen}
 use Rattle.release.specs.Release.{Raisable}
 use Rattle.release.proofs.Writing.{raisable}
 
@@ -46,8 +50,28 @@ module _ (h : Heap) where
     unfolding act done
     start_lists room = refl
 
--- a refusal of START's, by the law that gives its reason
-pub start_refused : {h : Heap} {r : ℕ} {a : Answer} → Ready h → (why : Refusal) → refusal_sound h (START r) ≡ number_of why → a ≡ answers (number_of why) 0 0 0
-    → (room : List ℕ) → Ran (START r) h room h room a
+-- a refusal of START's, by the law that gives its reason for the same root
+pub start_refused : {h : Heap} {r : ℕ} {a : Answer} → Ready h → (why : Refusal) (r' : ℕ) → refusal_sound h (START r') ≡ number_of why → r' ≡ r
+    → a ≡ answers (number_of why) 0 0 0 → (room : List ℕ) → Ran (START r) h room h room a
 unfolding is_fresh
-start_refused ready why law answer room = inner_refused ready refl law (refuses why) answer
+start_refused ready why r' law root answer room = inner_refused ready refl (rw (← root) law) (refuses why) answer
+
+module _ (h : Heap) (r : ℕ) where
+  -- START is refused before it writes
+  pub chose_not : {why given : Refusal} → given ≡ why → (x : Result (Below 64) Refusal) → IsErrAnd x (λ e. e ≡ given)
+      → refusal_sound h (START r) ≡ number_of why → Chosen h r x
+  chose_not why (Ok to) is law = absurd is
+  chose_not why (Err e) is law = rw (is ∙ why) law
+
+  -- START goes, and the head's count can rise
+  pub goes_raisable : {to : Below 64} → Ready h → Chosen h r (Ok to) → Raisable h.count (queue_at h 0)
+  goes_raisable ready goes = head_raisable h ready goes.2
+
+  -- and then it is done, for the same root
+  pub start_ran : {r' at : ℕ} {count' roots' control' : List ℕ} {to : Below 64} {a : Answer} → Ready h → Chosen h r (Ok to) → r ≡ r' → at ≡ to.0
+      → count' ≡ raise h.count (queue_at h 0) → roots' ≡ set h.roots at (queue_at h 0) → control' ≡ set h.control 1 (at + 1) → a ≡ answers 0 0 0 0
+      → (room : List ℕ) → Ran (START r') h room (tables h.kind h.flags count' h.slots roots' h.queue control') room a
+  unfolding is_fresh
+  start_ran ready goes root at count roots control answer room =
+      inner_done ready refl (rw (← root) goes.0) (start_does _ _ (at ∙ goes.1 ∙ root) count roots control) (answer ∙ start_answer _ _) (ap (λ (x : Answer). x.refused) answer)
+      (λ fits. start_lists _ _ room)

@@ -5,4 +5,4 @@ mod finishing;
 mod starting;
 
 pub use finishing::finish;
-pub use starting::start;
+pub use starting::{start, start_shared};

@@ -7,11 +7,13 @@ use mathlib.Core.Bool.{Bool, true}
 use mathlib.Core.Path.{◌≡◌, refl, sym, ap, ◌∙◌, subst, subst⁻¹}
 use lib.ListN.{length, take, get_or, set}
 use Rattle.rules.specs.declared.Answer.{Answer}
-use Rattle.rules.specs.Heap.{Heap, cells, tables, queued, root_at, set_root, set_slot, Used}
+use Rattle.rules.specs.Heap.{Heap, cells, tables, queued, root_at, slot_of, set_root, set_slot, Used}
 use Rattle.rules.specs.Release.{Work, start, raise, incref, release}
 use Rattle.rules.specs.Calls.{answers, write_root, write_slot}
 use Rattle.laws.specs.Lists.Tables.{inside}
 use Rattle.laws.specs.Sound.But.{SoundBut}
+use Rattle.laws.specs.Release.Onto.{onto}
+use Rattle.laws.specs.Release.Beside.{beside, release_beside}
 use Rattle.laws.specs.Release.Decref.{beside_balanced}
 use Rattle.laws.specs.Calls.Write.{count_bound, write_root_ready, write_slot_ready}
 use Rattle.release.specs.Release.{Raisable, Releasable, WorkDone}
@@ -137,3 +139,15 @@ module _ {h : Heap} {cell slot r : ℕ} (w : SlotWritable h cell slot r) where
     slot_done {h'} {l} {l'} {a} f =
         subst (λ (g : Heap). WorkFinished (cells h) (release (start g) (get_or h.slots (8 * cell + slot) 0)) h' l l' a) (slot_is h.roots)
         (subst (λ (j : ℕ). WorkFinished (cells h) (release (start (slotted h n i r)) (get_or h.slots j 0)) h' l l' a) at f)
+
+-- a slot's write reads no roots: what it does is the same whatever they are
+any_slot : (h : Heap) (cell slot r : ℕ) (roots : List ℕ) → write_slot (with_roots h roots) cell slot r ≡ beside roots [] [] (write_slot h cell slot r)
+unfolding write_slot incref set_slot start beside onto
+any_slot h cell slot r roots = release_beside roots [] [] (start (set_slot (incref h r) (8 * cell + slot) r)) (slot_of h cell slot)
+
+pub slot_any : (h : Heap) (cell slot r : ℕ) {k : Heap} {n : ℕ} {l l' : List ℕ} {a : Answer} → WorkFinished n (write_slot h cell slot r) k l l' a
+    → (roots : List ℕ) → WorkFinished n (write_slot (with_roots h roots) cell slot r) (with_roots k roots) l l' a
+unfolding beside onto
+slot_any h cell slot r {k} {n} {l} {l'} {a} f roots =
+    subst⁻¹ (λ (v : Work). WorkFinished n v (with_roots k roots) l l' a) (any_slot h cell slot r roots)
+    (record { heap = ap (λ (g : Heap). with_roots g roots) f.heap; listed = f.listed; answered = f.answered })

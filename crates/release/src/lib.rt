@@ -11,7 +11,7 @@ ghost use Rattle.rules.specs.Release.{start, raise, finalizable, refzero, decref
 ghost use Rattle.rules.specs.Calls.{write_root, write_slot};
 ghost use Rattle.release.specs.Release.{Raisable, Releasable, WorkListed, WorkCounted};
 ghost use Rattle.release.specs.Steps.{working, OthersStay, Named, SharedOff, ToComeOff, SlotsToComeOff, LastToComeOff, CameOff, Drainable};
-ghost use Rattle.release.specs.Write.{Writable, SlotWritable, WorkFinished};
+ghost use Rattle.release.specs.Write.{Writable, with_roots, SlotWritable, WorkFinished};
 
 use answers::{done, finished};
 use freeing::{free_cell, is_plain};
@@ -201,7 +201,7 @@ pub fn write_root(tables: &mut TablesMut, freed: &mut [u16], to: Root, r: u16) -
     take_off(tables, freed, old_root)
 }
 
-// A slot of an object is written, in the same order. The roots stay.
+// A slot of an object is written, in the same order. The roots are not read and stay: whoever has them elsewhere lends none, and knows it of those.
 pub fn write_slot(
     tables: &mut TablesMut,
     freed: &mut [u16],
@@ -213,6 +213,8 @@ pub fn write_slot(
     ensures same { SameTables tables.old tables.new }
     ensures roots_stay { tables.new.roots.now ≡ tables.old.roots.now }
     ensures written { WorkFinished (cells (lent tables.old)) (write_slot (lent tables.old) cell.0 slot.0 r) (lent tables.new) freed.old freed.new result }
+    ensures any_roots { (roots : List ℕ) → WorkFinished (cells (lent tables.old)) (write_slot (with_roots (lent tables.old) roots) cell.0 slot.0 r)
+        (with_roots (lent tables.new) roots) freed.old freed.new result }
 {
     let i = 8 * cell.index() + slot.index();
     let old_slot = tables.slots[i];

@@ -1,6 +1,7 @@
 // The seven lent tables as one value: they are one heap, and travel together. What they hold is in specs/Heap. Entries are C's numbers, on a damaged heap
 // any: a kind, flags, or a reference, which is empty at 0 and a cell's number plus 1 otherwise.
 ghost use Rattle.std.specs.Prelude.{◌≡◌};
+ghost use Rattle.rules.specs.Heap.{Heap};
 ghost use Rattle.rules.specs.Tables.{heap_of, lent};
 
 // The tables, to be read. Two structs: `vek_audit` has only shared tables, so one would ask more of it.
@@ -25,6 +26,30 @@ pub struct TablesMut<'a> {
     pub roots: &'a mut [u16],
     pub queue: &'a mut [u16],
     pub control: &'a mut [u16],
+}
+
+// Tables that a function only reads: lent to be read, or to be written. Who asks for these asks no caller for more than the other.
+pub trait Readable {
+    ghost heap: { Self → Heap };
+
+    fn read(&self) -> Tables<'_>
+        ensures { heap_of result ≡ heap self.now };
+}
+
+impl Readable for Tables<'_> {
+    ghost heap = { heap_of };
+
+    fn read(&self) -> Tables<'_> {
+        *self
+    }
+}
+
+impl Readable for TablesMut<'_> {
+    ghost heap = { lent };
+
+    fn read(&self) -> Tables<'_> {
+        self.shared()
+    }
 }
 
 impl TablesMut<'_> {

@@ -27,7 +27,8 @@ pub fn names_call(op: u16, x: usize, y: usize, z: usize) -> bool
     Call::of(op, x, y, z).is_some()
 }
 
-// A call. What it frees it lists in `freed`, if that has room for every cell.
+// A call. What it frees it lists in `freed`, if that has room for every cell. The tables are one value here, to be written; who is lent some of them
+// only to be read has `allocation::new_shared`, `finalizers::start_shared`, `writes::store_shared` and `sweep::collect_shared`.
 fn obey(tables: &mut TablesMut, freed: &mut [u16], call: Call) -> Result<Answer, Refusal>
     requires { Ready (lent tables.old) }
     ensures same { SameTables tables.old tables.new }

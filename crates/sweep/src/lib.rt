@@ -8,7 +8,8 @@ mod rescuing;
 mod unlinking;
 mod wiping;
 
-ghost use Rattle.std.specs.Prelude.{◌≤◌, [], length, replicate};
+ghost use Rattle.std.specs.Prelude.{◌≡◌, ◌≤◌, [], length, replicate};
+ghost use Rattle.rules.specs.Heap.{tables};
 ghost use Rattle.rules.specs.Tables.{lent, SameTables};
 ghost use Rattle.rules.specs.Sound.{Ready};
 ghost use Rattle.rules.specs.Refusals.Call.{COLLECT};
@@ -98,10 +99,41 @@ fn mark_and_sweep(
 pub fn collect(tables: &mut TablesMut, freed: &mut [u16]) -> Answer
     requires { Ready (lent tables.old) }
     ensures same { SameTables tables.old tables.new }
+    ensures roots_stay { tables.new.roots.now ≡ tables.old.roots.now }
     ensures ran { Ran COLLECT (lent tables.old) freed.old (lent tables.new) freed.new result }
 {
     // sixteen words, for the most cells that a heap has; every one is written before it is read
     let mut used = [0; 16];
     let mut marks = unmarked();
     mark_and_sweep(tables, &mut used, &mut marks, freed)
+}
+
+// COLLECT where the roots, which it only reads, are lent to be read: `collect` is lent a copy of them. A heap has 64 roots.
+pub fn collect_shared(
+    kind: &mut [u16],
+    flags: &mut [u16],
+    count: &mut [u16],
+    slots: &mut [u16],
+    roots: &[u16],
+    queue: &mut [u16],
+    control: &mut [u16],
+    freed: &mut [u16],
+) -> Answer
+    requires { Ready (tables kind.old flags.old count.old slots.old roots.now queue.old control.old) }
+    ensures { Ran COLLECT
+        (tables kind.old flags.old count.old slots.old roots.now queue.old control.old) freed.old
+        (tables kind.new flags.new count.new slots.new roots.now queue.new control.new) freed.new result }
+{
+    let mut held = [0u16; 64];
+    held.copy_from_slice(roots);
+    let mut tables = TablesMut {
+        kind,
+        flags,
+        count,
+        slots,
+        roots: &mut held,
+        queue,
+        control,
+    };
+    collect(&mut tables, freed)
 }

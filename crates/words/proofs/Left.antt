@@ -15,7 +15,7 @@ use Rattle.rules.specs.Words.{bit, is_open}
 use Rattle.laws.specs.Lists.Tests.{tests_agree}
 use Rattle.laws.specs.Words.Bits.{bit_none, from_below, from_on, trailing_at, trailing_below, trailing_lt, clear_to, clear_above}
 use Rattle.words.specs.Search.{OpenWord, is_left, left_of, open_between}
-use Rattle.words.specs.Listed.{skipped, listed, none_listed, same_listed}
+use Rattle.words.specs.Listed.{skipped, listed, unlisted, none_listed, same_listed}
 
 module _ (words marks : List ℕ) where
   -- the word itself, and those behind it
@@ -105,9 +105,9 @@ module _ (words marks : List ℕ) where
     left_all base e = rw (sym e) (same_listed (is_left words marks base word) (is_open words marks) base n (λ c g h. word_left o base c e g))
 
     -- with a cell in it: `(word >> k) << k`
-    pub left_from : (from : ℕ) → from / 64 ≡ j → from < n → word < 2 ^ 64
+    left_within : (from : ℕ) → from / 64 ≡ j → from < n → word < 2 ^ 64
         → left_of words marks n (64 * j) ((word / 2 ^ (from % 64) * 2 ^ (from % 64)) % 2 ^ 64) ≡ open_between words marks from n
-    left_from from e l fits =
+    left_within from e l fits =
         let base : ℕ = 64 * j in
         let bits : ℕ = (word / 2 ^ (from % 64) * 2 ^ (from % 64)) % 2 ^ 64 in
         skipped (is_left words marks base bits) base from n (omega arith) (omega arith)
@@ -119,3 +119,20 @@ module _ (words marks : List ℕ) where
               ∙ word_left o base c refl (omega arith)
           | no f ↦ left_behind base bits c (omega (arith, f))
         ])
+
+    -- which may lie behind all cells
+    left_behind_all : (from : ℕ) → from / 64 ≡ j → 64 * j ≤ n → n ≤ from → word < 2 ^ 64
+        → left_of words marks n (64 * j) ((word / 2 ^ (from % 64) * 2 ^ (from % 64)) % 2 ^ 64) ≡ open_between words marks from n
+    left_behind_all from e m l fits =
+        let base : ℕ = 64 * j in
+        let bits : ℕ = (word / 2 ^ (from % 64) * 2 ^ (from % 64)) % 2 ^ 64 in
+        none_listed (is_left words marks base bits) base n m
+        (λ d g h. none_below base bits (from % 64) (omega arith) (λ i k. from_below word (from % 64) i fits k) d g (omega arith))
+        ∙ sym (unlisted (is_open words marks) from n l)
+
+    pub left_from : (from : ℕ) → from / 64 ≡ j → 64 * j ≤ n → word < 2 ^ 64
+        → left_of words marks n (64 * j) ((word / 2 ^ (from % 64) * 2 ^ (from % 64)) % 2 ^ 64) ≡ open_between words marks from n
+    left_from from e m fits = elim (dec_lt from n) [
+      | yes l ↦ left_within from e l fits
+      | no f ↦ left_behind_all from e m (omega (arith, f)) fits
+    ]

@@ -1,14 +1,14 @@
 // The cells that have a bit in these words and none in the marks, by the processor's count of trailing zeros. Such cells are called open.
 // A search goes through a word by clearing its lowest bit, so that the open cells of a word are worked out once.
 // `as` widens here: From says no more, and each use of it is a further step for the proof.
-ghost use Rattle.std.specs.Prelude.{◌*◌, ◌^◌, ◌≤◌, ◌<◌, ◌≡◌, length};
+ghost use Rattle.std.specs.Prelude.{◌*◌, ◌/◌, ◌^◌, ◌≤◌, ◌<◌, ◌≡◌, length};
 ghost use Rattle.words.specs.Search.{OpenWord, open_between};
 
 use numbers::Cell;
 use std::marker::Model;
 
 // A search of so many cells, seen as the list of the open ones that are left, lowest first: in the word that begins at cell `base` those that have a bit in `bits`, and the open cells of the words after it.
-#[derive(Drop)]
+#[derive(Clone, Drop)]
 pub struct Open<'a> {
     words: &'a [u64],
     marks: &'a [u64],
@@ -52,10 +52,10 @@ pub fn open_cells<'a>(words: &'a [u64], marks: &'a [u64], cells: usize) -> Open<
     }
 }
 
-// The open cells from a given one on, of so many.
+// The open cells from a given one on, of so many. Of the word that the cell stands in some cell is one of these; the cell itself may lie behind them.
 pub fn open_from<'a>(words: &'a [u64], marks: &'a [u64], cells: usize, cell: Cell) -> Open<'a>
     requires cells_bound { (cells ≤ 64 * length words.now) × (cells ≤ 64 * length marks.now) }
-    requires cell_lt_cells { (cell.0 < cells) × (cells < 2 ^ 63) }
+    requires word_in_cells { (64 * (cell.0 / 64) < cells) × (cells < 2 ^ 63) }
     ensures { result ≡ open_between words.now marks.now cell.0 cells }
 {
     let c = cell.index();

@@ -45,3 +45,8 @@ module _ {h k : Heap} {room l : List ℕ} {a : Answer} (ok : Ready h) where
   store_ran {o} {slot} {from} found is w =
       let its = found_object h o found in
       wrote_ran ok refl (store_goes h o slot from is.0 is.1 is.2 its.0 its.1) (rw (its.2, is.3, is.4) refl) w
+
+-- the STORE that was done is the one that was named
+pub store_named : {h k : Heap} {room l : List ℕ} {a : Answer} (o slot from : ℕ) {o' slot' from' : ℕ} → (o' ≡ o) × (slot' ≡ slot) × (from' ≡ from)
+    → Ran (STORE o' slot' from') h room k l a → Ran (STORE o slot from) h room k l a
+store_named o slot from is ran = rw (is.0, is.1, is.2) at ran

@@ -1,4 +1,5 @@
 // STORE: a slot is written with what a root holds.
+ghost use Rattle.std.specs.Prelude.{◌≡◌};
 ghost use Rattle.rules.specs.Tables.{lent, SameTables};
 ghost use Rattle.rules.specs.Sound.{Ready};
 ghost use Rattle.rules.specs.Refusals.Call.{STORE};
@@ -22,6 +23,7 @@ pub fn store(
 ) -> Result<Answer, Refusal>
     requires { Ready (lent tables.old) }
     ensures same { SameTables tables.old tables.new }
+    ensures roots_stay { tables.new.roots.now ≡ tables.old.roots.now }
     ensures ran { Ran (STORE object slot from) (lent tables.old) freed.old (lent tables.new) freed.new (answer_of result) }
 {
     let holder = Root::of(object).ok_or(Refusal::Number)?;

@@ -5,7 +5,7 @@ use mathlib.Core.Path.{◌≡◌, ◌∙◌}
 use Rattle.rules.specs.Tables.{lent}
 use Rattle.release.specs.Write.{with_roots}
 use Rattle.release.proofs.Released.{named}
-use Rattle.release.proofs.Writing.{raisable, took_shared, slot_ready, slot_done}
+use Rattle.release.proofs.Writing.{raisable, took_shared, slot_ready, slot_done, slot_any}
 use Rattle.release.proofs.write_slot.Goals as goal
 
 -- the entry of the slots table that the code writes
@@ -26,6 +26,9 @@ returns-then-decref_shared-clause-written c =
     (slot_done c.requires at raised
     (took_shared (slot_ready c.requires at raised) c.decref_shared.ensures c.if-decref_shared.true _ _ _ _ (omega arith) (omega arith) (omega arith) (omega arith)))
 
+pub returns-then-decref_shared-clause-any_roots : goal.returns-then-decref_shared-clause-any_roots
+returns-then-decref_shared-clause-any_roots c = slot_any _ _ _ _ (returns-then-decref_shared-clause-written c)
+
 pub take_off-requires : goal.take_off-requires
 take_off-requires c =
     slot_ready c.requires (place c.index.ensures c.index-2.ensures) (c.decref_shared.ensures.kept c.if-decref_shared.false ∙ c.incref.ensures)
@@ -34,3 +37,6 @@ pub returns-clause-written : goal.returns-clause-written
 returns-clause-written c =
     let raised = c.decref_shared.ensures.kept c.if-decref_shared.false ∙ c.incref.ensures in
     slot_done c.requires (place c.index.ensures c.index-2.ensures) raised c.take_off.ensures.taken_off
+
+pub returns-clause-any_roots : goal.returns-clause-any_roots
+returns-clause-any_roots c = slot_any _ _ _ _ (returns-clause-written c)

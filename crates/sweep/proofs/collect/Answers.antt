@@ -3,7 +3,7 @@ use native.Mathlib.Omega.{arith}
 use mathlib.Core.Path.{refl}
 use lib.ListN.{length}
 use Rattle.laws.specs.Sound.Facts.{ready_facts}
-use Rattle.sweep.proofs.Collecting.{collect_ran}
+use Rattle.sweep.proofs.Collecting.{collect_ran, collect_roots}
 use Rattle.sweep.proofs.Whole.{start_scratch}
 use Rattle.sweep.proofs.collect.Goals as goal
 
@@ -18,3 +18,6 @@ mark_and_sweep-requires c =
 
 pub returns-clause-ran : goal.returns-clause-ran
 returns-clause-ran c = collect_ran c.requires c.mark_and_sweep.ensures.collected
+
+pub returns-clause-roots_stay : goal.returns-clause-roots_stay
+returns-clause-roots_stay c = collect_roots c.requires c.mark_and_sweep.ensures.collected

@@ -15,18 +15,18 @@ handed_on why (Ok a) is = absurd is
 handed_on why (Err e) is = ap number_of is
 
 pub returns-then-not-lists_fit : goal.returns-then-not-lists_fit
-returns-then-not-lists_fit c = lists_refused _ _ _ _ (sym c.lists_fit.ensures ∙ c.if-not-lists_fit.true) (omega arith)
+returns-then-not-lists_fit g c = lists_refused _ _ _ _ (sym c.lists_fit.ensures ∙ c.if-not-lists_fit.true) (omega arith)
 
 pub returns-in_err-admit : goal.returns-in_err-admit
-returns-in_err-admit c =
+returns-in_err-admit g c =
     handed_on _ c.from_residual.result c.from_residual.ensures.1
     ∙ tables_refused _ _ _ _ (sym c.lists_fit.ensures ∙ c.if-not-lists_fit.false) c.in_err-admit.ensures (refuses _)
 
 pub some_ends-requires : goal.some_ends-requires
-some_ends-requires c = (lists_fit_of _ _ (sym c.lists_fit.ensures ∙ c.if-not-lists_fit.false)).1
+some_ends-requires g c = (lists_fit_of _ _ (sym c.lists_fit.ensures ∙ c.if-not-lists_fit.false)).1
 
 pub returns-then-some_ends : goal.returns-then-some_ends
-returns-then-some_ends c =
+returns-then-some_ends g c =
     totals_refused
     _ _ _ _
     (sym c.lists_fit.ensures ∙ c.if-not-lists_fit.false)
@@ -35,7 +35,7 @@ returns-then-some_ends c =
     (omega arith)
 
 pub returns : goal.returns
-returns c =
+returns g c =
     none_refused
     _ _ _ _
     (sym c.lists_fit.ensures ∙ c.if-not-lists_fit.false)

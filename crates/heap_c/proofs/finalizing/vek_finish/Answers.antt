@@ -4,11 +4,12 @@ use mathlib.Core.Path.{refl}
 use Rattle.std.proofs.Common.{rules}
 use Rattle.rules.specs.Refusals.{is_fresh}
 use Rattle.heap_c.proofs.Entries.{refused_first, ready_now, list_fits, did}
+use Rattle.answers.proofs.Refusing.{refused_by}
 use Rattle.heap_c.proofs.finalizing.vek_finish.Goals as goal
 
 pub returns-in-Err : goal.returns-in-Err
 unfolding is_fresh
-returns-in-Err c = refused_first _ _ refl c.in-Err.ensures c.refuse.ensures
+returns-in-Err c = refused_first _ _ refl c.in-Err.ensures (refused_by c.refuse.ensures)
 
 pub finish-requires : goal.finish-requires
 finish-requires c = ready_now _ c.in_default.ensures

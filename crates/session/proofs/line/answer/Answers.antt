@@ -3,6 +3,7 @@ use mathlib.Core.Path.{refl, sym}
 use Rattle.rules.specs.Calls.{refuse}
 use Rattle.rules.specs.Asked.{obey as obeys}
 use Rattle.session.specs.Session.{asked_of, number_of}
+use Rattle.answers.proofs.Refusing.{refused_by}
 use Rattle.session.proofs.line.answer.Goals as goal
 
 pub returns-in-Ok-clause-after : goal.returns-in-Ok-clause-after
@@ -23,4 +24,4 @@ returns-in-Err-clause-after c = rw c.in-Err.is refl
 
 pub returns-in-Err-clause-wrote : goal.returns-in-Err-clause-wrote
 unfolding asked_of number_of obeys refuse
-returns-in-Err-clause-wrote c = rw c.in-Err.is (rw c.refuse.ensures at c.write_answer-in-Err.ensures.wrote)
+returns-in-Err-clause-wrote c = rw c.in-Err.is (rw (refused_by c.refuse.ensures) at c.write_answer-in-Err.ensures.wrote)
