@@ -1,3 +1,4 @@
+pub mod Ahead
 pub mod Left
 pub mod OpenWords
 pub mod UsedWords

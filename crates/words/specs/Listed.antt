@@ -3,6 +3,7 @@
 use Rattle.std.specs.Prelude.{ℕ, zero, suc, ◌+◌, ◌-◌, ◌≤◌, ◌<◌, List, [], ◌∷◌, Bool, true, false, cond, ◌≡◌, refl, length, get_or, drop}
 use Rattle.std.proofs.Math.Decide.{ℕ_discrete, dec_lt}
 use Rattle.std.proofs.Common.{arith, sym, ap, ◌∙◌}
+use Rattle.rules.specs.Depth.{first_from}
 use Rattle.rules.specs.Words.{is_open, next_open}
 use Rattle.laws.specs.Words.Search.{open_law}
 use Rattle.words.specs.Search.{all_from, all_between, open_between}
@@ -61,26 +62,47 @@ same_listed p q from n same = all_same p q (n - from) from (λ c a b. same c a (
 cons≢nil : {x : ℕ} {l : List ℕ} {A : Type 0} → x ∷ l ≡ [] → A
 cons≢nil e = absurd (omega (arith, ap length e))
 
-module _ (words marks : List ℕ) (from n : ℕ) (l : from ≤ n) where
-  to_next : open_between words marks from n ≡ open_between words marks (next_open words marks from n) n
-  to_next =
-      let r = open_law words marks from n l in
-      skipped (is_open words marks) from (next_open words marks from n) n r.within.0 r.within.1 r.lowest
+module _ (words marks : List ℕ) (from n : ℕ) where
+  -- a search may begin behind all cells
+  pub next_behind : n < from → next_open words marks from n ≡ from
+  unfolding next_open first_from
+  next_behind l =
+      let z : n - from ≡ 0 = omega arith in
+      ap (first_from (is_open words marks) from) z
 
-  at_next : next_open words marks from n < n → open_between words marks from n ≡ next_open words marks from n ∷ open_between words marks (suc (next_open words marks from n)) n
-  at_next h = to_next ∙ listed (is_open words marks) (next_open words marks from n) n h ((open_law words marks from n l).passes h)
+  module _ (l : from ≤ n) where
+    to_next : open_between words marks from n ≡ open_between words marks (next_open words marks from n) n
+    to_next =
+        let r = open_law words marks from n l in
+        skipped (is_open words marks) from (next_open words marks from n) n r.within.0 r.within.1 r.lowest
 
-  -- the lowest stands at the front, and those behind it are listed after it
-  pub first_open : {c : ℕ} {rest : List ℕ} → open_between words marks from n ≡ c ∷ rest
-      → (c ≡ next_open words marks from n) × (next_open words marks from n < n) × (rest ≡ open_between words marks (suc (next_open words marks from n)) n)
-  first_open e = elim (dec_lt (next_open words marks from n) n) [
-    | yes h ↦ let both = sym e ∙ at_next h in (ap (λ (m : List ℕ). get_or m 0 0) both, h, ap (drop 1) both)
-    | no f ↦ cons≢nil (sym e ∙ to_next ∙ unlisted (is_open words marks) (next_open words marks from n) n (omega (arith, f)))
+    at_next : next_open words marks from n < n → open_between words marks from n ≡ next_open words marks from n ∷ open_between words marks (suc (next_open words marks from n)) n
+    at_next h = to_next ∙ listed (is_open words marks) (next_open words marks from n) n h ((open_law words marks from n l).passes h)
+
+    -- the lowest stands at the front, and those behind it are listed after it
+    pub first_open : {c : ℕ} {rest : List ℕ} → open_between words marks from n ≡ c ∷ rest
+        → (c ≡ next_open words marks from n) × (next_open words marks from n < n) × (rest ≡ open_between words marks (suc (next_open words marks from n)) n)
+    first_open e = elim (dec_lt (next_open words marks from n) n) [
+      | yes h ↦ let both = sym e ∙ at_next h in (ap (λ (m : List ℕ). get_or m 0 0) both, h, ap (drop 1) both)
+      | no f ↦ cons≢nil (sym e ∙ to_next ∙ unlisted (is_open words marks) (next_open words marks from n) n (omega (arith, f)))
+    ]
+
+    -- or there is none
+    pub none_open : open_between words marks from n ≡ [] → n ≤ next_open words marks from n
+    none_open e = elim (dec_lt (next_open words marks from n) n) [
+      | yes h ↦ cons≢nil (sym (at_next h) ∙ e)
+      | no f ↦ omega (arith, f)
+    ]
+
+  -- what the lowest one says of the list, wherever it begins
+  pub next_first : next_open words marks from n < n → open_between words marks from n ≡ next_open words marks from n ∷ open_between words marks (suc (next_open words marks from n)) n
+  next_first h = elim (dec_lt n from) [
+    | yes m ↦ absurd (omega (arith, next_behind m))
+    | no f ↦ at_next (omega (arith, f)) h
   ]
 
-  -- or there is none
-  pub none_open : open_between words marks from n ≡ [] → n ≤ next_open words marks from n
-  none_open e = elim (dec_lt (next_open words marks from n) n) [
-    | yes h ↦ cons≢nil (sym (at_next h) ∙ e)
-    | no f ↦ omega (arith, f)
+  pub next_none : n ≤ next_open words marks from n → open_between words marks from n ≡ []
+  next_none h = elim (dec_lt n from) [
+    | yes m ↦ unlisted (is_open words marks) from n (omega arith)
+    | no f ↦ to_next (omega (arith, f)) ∙ unlisted (is_open words marks) (next_open words marks from n) n h
   ]

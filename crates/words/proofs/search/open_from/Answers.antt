@@ -1,12 +1,14 @@
 -- `words::search::open_from` meets its contract. Assumes nothing.
 use native.Mathlib.Omega.{arith}
-use mathlib.Core.Path.{refl, sym}
-use Rattle.words.proofs.Left.{left_from}
+use mathlib.Core.Path.{◌∙◌}
+use Rattle.words.proofs.Left.{left_within, left_listed}
 use Rattle.words.proofs.search.open_from.Goals as goal
 
+pub open_left-requires-clause-cells_bound : goal.open_left-requires-clause-cells_bound
+open_left-requires-clause-cells_bound c = (omega arith, omega arith, omega arith)
+
+pub open_left-requires-clause-some_from : goal.open_left-requires-clause-some_from
+open_left-requires-clause-some_from c = (c.args.cell.0, left_within c.from_cell.ensures (omega arith))
+
 pub returns : goal.returns
-returns c =
-    let index = c.index-c in
-    let words = c.args.words.now in
-    let marks = c.args.marks.now in
-    rw (sym index.ensures) (left_from words marks c.open_bits-open.ensures c.args.cells index.result refl (omega arith) (omega arith))
+returns c = c.open_left.ensures ∙ left_listed (left_within c.from_cell.ensures (omega arith))
