@@ -114,7 +114,7 @@ module _ {kind used marked : List ℕ} (s : Searchable kind used marked) where
   -- a cell is left
   pub turn : {from : ℕ} {left rest : List ℕ} {cell : Cell} → Searching kind used marked from left → left ≡ cell.0 ∷ rest → Turn kind used marked from cell rest
   turn {from} {cell = cell} a e =
-      let first = first_open used marked from (length kind) a.within (sym a.is ∙ e) in
+      let first = first_open used marked from (length kind) (sym a.is ∙ e) in
       let at : next_open used marked from (length kind) ≡ cell.0 = sym first.0 in record {
         inside = omega (arith, at, first.1);
         garbage = rw at at (garbage_found from a.within first.1);
@@ -127,7 +127,7 @@ module _ {kind used marked : List ℕ} (s : Searchable kind used marked) where
   -- none is: every cell was passed by
   module _ {from : ℕ} {left : List ℕ} (a : Searching kind used marked from left) (e : left ≡ []) where
     all_passed : next_open used marked from (length kind) ≡ length kind
-    all_passed = found_all from a.within (none_open used marked from (length kind) a.within (sym a.is ∙ e))
+    all_passed = found_all from a.within (none_open used marked from (length kind) (sym a.is ∙ e))
 
     pub garbage_ends : select (is_garbage kind (bits_of (length kind) marked)) from ≡ garbage_of kind (bits_of (length kind) marked)
     garbage_ends = sym (garbage_passed from a.within) ∙ ap (select (is_garbage kind (bits_of (length kind) marked))) all_passed

@@ -15,7 +15,7 @@ use Rattle.rules.specs.Words.{bit, is_open}
 use Rattle.laws.specs.Lists.Tests.{fails, tests_agree}
 use Rattle.words.specs.declared.search.Rest.{Rest}
 use Rattle.words.specs.Search.{Ahead, Left, AllFrom, FoundFrom, is_left, left_of, open_between}
-use Rattle.words.specs.Listed.{skipped, unlisted, none_listed, same_listed, next_first, next_none}
+use Rattle.words.specs.Listed.{skipped, unlisted, none_listed, same_listed, open_first, open_none}
 
 module _ {words marks : List ℕ} {from base bits : ℕ} (a : Ahead words marks from base bits) where
   -- of the word itself those that have a bit
@@ -51,7 +51,7 @@ module _ {words marks : List ℕ} {from base bits : ℕ} (a : Ahead words marks 
         ∙ same_listed (is_left words marks base bits) (is_open words marks) from n (λ c g h. left_open c g)
   ]
 
--- all cells from some cell on are left of any n cells of which its word has one
+-- what is left from a cell on is left of any n cells of which that cell's word has one
 pub left_within : {words marks : List ℕ} {n from : ℕ} {rest : Rest} → AllFrom words marks from rest → 64 * (from / 64) < n → Left words marks n from rest
 left_within {from = from} all some =
     let l = all (suc from) (omega arith) in
@@ -65,9 +65,9 @@ module _ {words marks : List ℕ} {n from : ℕ} {rest : Rest} (l : Left words m
   pub left_first : {cell : Cell} {next : Rest} → FoundFrom words marks n from (Some (cell, next))
       → left_of words marks n rest.base rest.bits ≡ cell.0 ∷ left_of words marks n next.base next.bits
   left_first {cell} {next} found =
-      left_listed ∙ next_first words marks from n found.1
+      left_listed ∙ open_first words marks from n found.1
       ∙ sym (λ i. found.0 i ∷ ahead_listed found.2.1 n (omega (arith, found.2.0)) i)
 
   -- or nothing does
   pub left_none : FoundFrom words marks n from None → left_of words marks n rest.base rest.bits ≡ []
-  left_none none = left_listed ∙ next_none words marks from n none
+  left_none none = left_listed ∙ open_none words marks from n none

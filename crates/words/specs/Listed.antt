@@ -70,39 +70,37 @@ module _ (words marks : List ℕ) (from n : ℕ) where
       let z : n - from ≡ 0 = omega arith in
       ap (first_from (is_open words marks) from) z
 
-  module _ (l : from ≤ n) where
-    to_next : open_between words marks from n ≡ open_between words marks (next_open words marks from n) n
-    to_next =
-        let r = open_law words marks from n l in
-        skipped (is_open words marks) from (next_open words marks from n) n r.within.0 r.within.1 r.lowest
+  to_next : from ≤ n → open_between words marks from n ≡ open_between words marks (next_open words marks from n) n
+  to_next l =
+      let r = open_law words marks from n l in
+      skipped (is_open words marks) from (next_open words marks from n) n r.within.0 r.within.1 r.lowest
 
-    at_next : next_open words marks from n < n → open_between words marks from n ≡ next_open words marks from n ∷ open_between words marks (suc (next_open words marks from n)) n
-    at_next h = to_next ∙ listed (is_open words marks) (next_open words marks from n) n h ((open_law words marks from n l).passes h)
-
-    -- the lowest stands at the front, and those behind it are listed after it
-    pub first_open : {c : ℕ} {rest : List ℕ} → open_between words marks from n ≡ c ∷ rest
-        → (c ≡ next_open words marks from n) × (next_open words marks from n < n) × (rest ≡ open_between words marks (suc (next_open words marks from n)) n)
-    first_open e = elim (dec_lt (next_open words marks from n) n) [
-      | yes h ↦ let both = sym e ∙ at_next h in (ap (λ (m : List ℕ). get_or m 0 0) both, h, ap (drop 1) both)
-      | no f ↦ cons≢nil (sym e ∙ to_next ∙ unlisted (is_open words marks) (next_open words marks from n) n (omega (arith, f)))
-    ]
-
-    -- or there is none
-    pub none_open : open_between words marks from n ≡ [] → n ≤ next_open words marks from n
-    none_open e = elim (dec_lt (next_open words marks from n) n) [
-      | yes h ↦ cons≢nil (sym (at_next h) ∙ e)
-      | no f ↦ omega (arith, f)
-    ]
-
-  -- what the lowest one says of the list, wherever it begins
-  pub next_first : next_open words marks from n < n → open_between words marks from n ≡ next_open words marks from n ∷ open_between words marks (suc (next_open words marks from n)) n
-  next_first h = elim (dec_lt n from) [
+  -- the lowest stands at the front, and those behind it are listed after it
+  pub open_first : next_open words marks from n < n → open_between words marks from n ≡ next_open words marks from n ∷ open_between words marks (suc (next_open words marks from n)) n
+  open_first h = elim (dec_lt n from) [
     | yes m ↦ absurd (omega (arith, next_behind m))
-    | no f ↦ at_next (omega (arith, f)) h
+    | no f ↦
+        let l : from ≤ n = omega (arith, f) in
+        to_next l ∙ listed (is_open words marks) (next_open words marks from n) n h ((open_law words marks from n l).passes h)
   ]
 
-  pub next_none : n ≤ next_open words marks from n → open_between words marks from n ≡ []
-  next_none h = elim (dec_lt n from) [
+  -- or there is none
+  pub open_none : n ≤ next_open words marks from n → open_between words marks from n ≡ []
+  open_none h = elim (dec_lt n from) [
     | yes m ↦ unlisted (is_open words marks) from n (omega arith)
     | no f ↦ to_next (omega (arith, f)) ∙ unlisted (is_open words marks) (next_open words marks from n) n h
+  ]
+
+  -- and what the list says of the lowest
+  pub first_open : {c : ℕ} {rest : List ℕ} → open_between words marks from n ≡ c ∷ rest
+      → (c ≡ next_open words marks from n) × (next_open words marks from n < n) × (rest ≡ open_between words marks (suc (next_open words marks from n)) n)
+  first_open e = elim (dec_lt (next_open words marks from n) n) [
+    | yes h ↦ let both = sym e ∙ open_first h in (ap (λ (m : List ℕ). get_or m 0 0) both, h, ap (drop 1) both)
+    | no f ↦ cons≢nil (sym e ∙ open_none (omega (arith, f)))
+  ]
+
+  pub none_open : open_between words marks from n ≡ [] → n ≤ next_open words marks from n
+  none_open e = elim (dec_lt (next_open words marks from n) n) [
+    | yes h ↦ cons≢nil (sym (open_first h) ∙ e)
+    | no f ↦ omega (arith, f)
   ]
