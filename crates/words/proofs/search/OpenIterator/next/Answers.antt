@@ -2,7 +2,7 @@
 use native.Mathlib.Omega.{arith}
 use mathlib.Core.Path.{sym, ◌∙◌}
 use Rattle.std.proofs.Common.{rules}
-use Rattle.words.proofs.Left.{left_none, left_first}
+use Rattle.words.proofs.Left.{left_not_found, left_found}
 use Rattle.words.proofs.search.OpenIterator.next.Goals as goal
 
 pub next_open-requires-clause-cells_bound : goal.next_open-requires-clause-cells_bound
@@ -19,7 +19,7 @@ pub returns-in_err-cell-clause-steps : goal.returns-in_err-cell-clause-steps
 returns-in_err-cell-clause-steps c =
     let s = c.self.inside in
     let i = c.self.invariant in
-    let none = sym c.self.view_is ∙ left_none {rest = s.rest} i.3.1 (c.in_err-cell.ensures i.3.0 i.3.1) in
+    let none = sym c.self.view_is ∙ left_not_found {rest = s.rest} i.3.1 (c.in_err-cell.ensures i.3.0 i.3.1) in
     rw c.from_residual.ensures (none, none)
 
 pub invariant_of-self : goal.invariant_of-self
@@ -33,7 +33,7 @@ returns-clause-steps c =
     let s = c.self.inside in
     let i = c.self.invariant in
     let found = c.in_ok-cell.ensures i.3.0 i.3.1 in
-    sym c.self.view_is ∙ left_first {rest = s.rest} i.3.1 {next = c.in_ok-cell.rest} found
+    sym c.self.view_is ∙ left_found {rest = s.rest} i.3.1 {next = c.in_ok-cell.rest} found
 
 pub returns-clause-goes : goal.returns-clause-goes
 returns-clause-goes c =
